@@ -1,0 +1,10 @@
+pub mod Counts
+pub mod Store
+pub mod Reading
+pub mod Writing
+pub mod Loading
+pub mod Appending
+pub mod MemoryStates
+pub mod MemoryFiles
+pub mod MemorySink
+pub mod HostStates

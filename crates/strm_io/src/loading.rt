@@ -1,0 +1,68 @@
+ghost use Rattle.std.specs.Prelude.{◌≡◌, ◌≤◌};
+ghost use Rattle.strm_io.specs.Loading.{LoadsFile, LoadsRest, LoadHasCause};
+
+use crate::reading::{Files, Opened, Piece};
+use std::alloc::Global;
+
+/// Why a file wasn't loaded.
+#[derive(Clone, Copy, Debug, PartialEq, Eq)]
+pub enum LoadFault {
+    /// There is no such file: it comes only where `misses` of the files rose in the call.
+    Missing,
+    /// The file has more bytes than the limit.
+    TooLong,
+    /// The device failed: it comes only where `faults` of the files rose in the call.
+    Read,
+    /// Memory was refused.
+    NoMemory,
+}
+
+/// The bytes of the named file, read to its end, at most `limit` of them.
+///
+/// Over a store that tells its bytes the answer is exact, unless it is `Read` or `NoMemory`: it
+/// is `Missing` exactly where no such name is held, `TooLong` exactly where the file has more
+/// than `limit` bytes, and else the file's bytes.
+pub fn load<F: Files>(
+    alloc: Global,
+    files: &mut F,
+    name: &str,
+    limit: u64,
+) -> Result<Vec<u8>, LoadFault>
+    ensures loads { LoadsFile (F.holds files.old) name.now limit result }
+    ensures cause { LoadHasCause (F.misses files.old) (F.misses files.new)
+        (F.faults files.old) (F.faults files.new) result }
+    ensures holds { F.holds files.new ≡ F.holds files.old }
+    ensures misses { F.misses files.old ≤ F.misses files.new }
+    ensures faults { F.faults files.old ≤ F.faults files.new }
+{
+    match files.open_file(name) {
+        Opened::Found => load_rest(alloc, files, limit),
+        Opened::Missing => Err(LoadFault::Missing),
+        Opened::Failed => Err(LoadFault::Read),
+    }
+}
+
+// What is left of the open file, at most `limit` bytes.
+fn load_rest<F: Files>(alloc: Global, files: &mut F, limit: u64) -> Result<Vec<u8>, LoadFault>
+    ensures loads { LoadsRest (F.left files.old) limit result }
+    ensures cause { LoadHasCause (F.misses files.old) (F.misses files.new)
+        (F.faults files.old) (F.faults files.new) result }
+    ensures holds { F.holds files.new ≡ F.holds files.old }
+    ensures misses { F.misses files.old ≤ F.misses files.new }
+    ensures faults { F.faults files.old ≤ F.faults files.new }
+{
+    let mut bytes = Vec::new(alloc);
+    let mut buffer = [0u8; 8_192];
+    while bytes.len() as u64 <= limit {
+        match files.piece(&mut buffer) {
+            Piece::Got(n) => {
+                if bytes.extend_from_slice(&buffer[..n as usize]).is_err() {
+                    return Err(LoadFault::NoMemory);
+                }
+            }
+            Piece::AtEnd => return Ok(bytes),
+            Piece::Failed => return Err(LoadFault::Read),
+        }
+    }
+    Err(LoadFault::TooLong)
+}

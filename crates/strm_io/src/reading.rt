@@ -1,0 +1,65 @@
+ghost use Rattle.std.specs.Prelude.{◌≡◌, ℕ, ◌<◌, ◌≤◌, List, Option, length};
+ghost use Rattle.strm_io.specs.Store.{Store};
+ghost use Rattle.strm_io.specs.Reading.{OpensFile, OpeningHasCause, BringsPiece, PieceHasCause};
+
+/// The answer of `Files::open_file`.
+#[derive(Clone, Copy, Debug, PartialEq, Eq)]
+pub enum Opened {
+    /// The file is open, and is read from its first byte.
+    Found,
+    /// There is no such file. No file is open.
+    Missing,
+    /// The device failed. No file is open.
+    Failed,
+}
+
+/// The answer of `Files::piece`.
+#[derive(Clone, Copy, Debug, PartialEq, Eq)]
+pub enum Piece {
+    /// So many bytes at the front of the buffer are the next of the file, at least one.
+    Got(u64),
+    /// The file has no byte more, or no file is open.
+    AtEnd,
+    /// The device failed. No file is open.
+    Failed,
+}
+
+/// Files that are read one at a time, each from its front to its end.
+///
+/// Contracts see what the store holds (`holds`) and what is still to be read of the open file
+/// (`left`), both where the device tells them, and two counts that never fall: of the calls
+/// that failed (`faults`) and of those that found no file (`misses`).
+pub trait Files {
+    ghost holds: { Self → Option Store };
+
+    ghost left: { Self → Option (List ℕ) };
+
+    ghost faults: { Self → ℕ };
+
+    ghost misses: { Self → ℕ };
+
+    /// Makes the named file the one that is read, from its first byte.
+    ///
+    /// `Missing` comes only where the misses rose in this call, and over a store that tells it
+    /// comes exactly where no such name is held and the answer isn't `Failed`. `Failed` comes
+    /// only where the faults rose in this call.
+    fn open_file(&mut self, name: &str) -> Opened
+        ensures opens { OpensFile (holds self.old) name.now (left self.new) result }
+        ensures cause { OpeningHasCause (misses self.old) (misses self.new) (faults self.old) (faults self.new)
+            result }
+        ensures holds { holds self.new ≡ holds self.old }
+        ensures misses { misses self.old ≤ misses self.new }
+        ensures faults { faults self.old ≤ faults self.new };
+
+    /// Takes the next bytes of the open file into the front of `buf`, which isn't empty.
+    ///
+    /// `AtEnd` comes only where nothing is left to be read. `Failed` comes only where the faults
+    /// rose in this call.
+    fn piece(&mut self, buf: &mut [u8]) -> Piece
+        requires { 0 < length buf.old }
+        ensures brings { BringsPiece (left self.old) (left self.new) buf.new result }
+        ensures cause { PieceHasCause (faults self.old) (faults self.new) result }
+        ensures holds { holds self.new ≡ holds self.old }
+        ensures misses { misses self.old ≤ misses self.new }
+        ensures faults { faults self.old ≤ faults self.new };
+}
