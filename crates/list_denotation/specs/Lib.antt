@@ -1,0 +1,12 @@
+pub mod Terms
+pub mod Copies
+pub mod Pipelines
+pub mod Inputs
+pub mod Values
+pub mod Rows
+pub mod Denotation
+pub mod Observation
+pub mod Far
+pub mod Work
+pub mod Counts
+pub mod Typing

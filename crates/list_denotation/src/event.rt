@@ -1,0 +1,11 @@
+use strm_num::{List, Word};
+
+/// What a run writes: a word of a row, or the end of a row.
+#[derive(Clone, Copy, Debug, PartialEq, Eq)]
+pub enum Event {
+    Emit(Word),
+    EndRow,
+}
+
+/// The events of a run, in order.
+pub type Events = List<Event>;
