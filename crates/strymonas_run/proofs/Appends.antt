@@ -1,0 +1,117 @@
+-- The code appends statements one by one; the definitions join blocks.
+use Rattle.std.proofs.Common.{rules, ◌≡◌, ℕ, zero, suc, ◌+◌, ◌-◌, ◌<◌, ◌≤◌, List, [], ◌∷◌, ◌++◌, length, drop, Some, refl, sym, ap, ◌∙◌, append_assoc, append-nil, arith}
+use Rattle.std.specs.Prelude.{slice_get, IsTrue}
+use Rattle.std.proofs.lemmas.List.{drop_all}
+use Rattle.strm_num.proofs.Lists.{drop_at}
+use Rattle.strm_num.proofs.Truths.{both_true}
+use Rattle.list_denotation.specs.declared.expr.Expr.{Expr}
+use Rattle.list_denotation.specs.Copies.{term_of, terms_of}
+use Rattle.list_denotation.specs.Typing.{is_bound, all_bound}
+use Rattle.strymonas_run.specs.declared.loop_ir.syntax.Stmt.{Stmt, the_lemmas}
+use Rattle.strymonas_run.specs.declared.loop_ir.syntax.Stmt.TheVariants as stmt
+use Rattle.strymonas_run.specs.declared.loop_ir.syntax.T.{T}
+use Rattle.strymonas_run.specs.declared.loop_ir.syntax.W.{W}
+use Rattle.strymonas_run.specs.declared.loop_ir.syntax.W.TheVariants as w
+use Rattle.strymonas_run.specs.Statements.{Var, Statement, Set, Read, Loop, Emit, EndRow, Block, Nil, Cons, join}
+use Rattle.strymonas_run.specs.StatementCopies.{operand_of, test_of, statement_of, block_of}
+use Rattle.strymonas_run.specs.Emission.{operand_for, assignments, variables_from, print_block}
+use Rattle.strymonas_run.proofs.Typed.{typed_bound, typed_few}
+
+pub terms_of_length : (es : List Expr) → length (terms_of es) ≡ length es
+terms_of_length [] = refl
+terms_of_length (e ∷ es) = ap suc (terms_of_length es)
+
+pub block_push : (ss : List Stmt) (s : Stmt) → block_of (ss ++ s ∷ []) ≡ join (block_of ss) (Cons (statement_of s) Nil)
+block_push [] s = refl
+block_push (x ∷ ss) s = ap (λ b. Cons (statement_of x) b) (block_push ss s)
+
+pub join_join : (a b c : Block) → join (join a b) c ≡ join a (join b c)
+join_join Nil b c = refl
+join_join (Cons s a) b c = ap (λ rest. Cons s rest) (join_join a b c)
+
+pub join-nil : (a : Block) → join a Nil ≡ a
+join-nil Nil = refl
+join-nil (Cons s a) = ap (λ rest. Cons s rest) (join-nil a)
+
+set_copy : (v : ℕ) (x : W) → statement_of (stmt.Set v x) ≡ Set v (operand_of x)
+set_copy v x = search (rules, the_lemmas)
+
+read_copy : (v a : ℕ) (x : W) → statement_of (stmt.Read v a x) ≡ Read v a (operand_of x)
+read_copy v a x = search (rules, the_lemmas)
+
+emit_copy : (x : W) → statement_of (stmt.Emit x) ≡ Emit (operand_of x)
+emit_copy x = search (rules, the_lemmas)
+
+loop_copy : (t : T) (body : List Stmt) → statement_of (stmt.Loop t body) ≡ Loop (test_of t) (block_of body)
+loop_copy t body = search (rules, the_lemmas)
+
+end_copy : statement_of stmt.EndRow ≡ EndRow
+end_copy = search (rules, the_lemmas)
+
+-- a statement in front of what is still to come
+push_front : (ss : List Stmt) (s : Stmt) (t : Statement) (rest : Block) → statement_of s ≡ t → join (block_of (ss ++ s ∷ [])) rest ≡ join (block_of ss) (Cons t rest)
+push_front ss s t rest e = ap (λ b. join b rest) (block_push ss s) ∙ join_join (block_of ss) (Cons (statement_of s) Nil) rest ∙ ap (λ u. join (block_of ss) (Cons u rest)) e
+
+-- ---- the words of a row
+pub bound_at : (n : ℕ) (es : List Expr) (i : ℕ) (e : Expr) → IsTrue (all_bound n (terms_of es)) → slice_get es i ≡ Some e → IsTrue (is_bound n (term_of e))
+bound_at n [] i e h g = absurd cc
+bound_at n (x ∷ es) zero e h g =
+    let same : x ≡ e = cc in
+    ap (λ y. is_bound n (term_of y)) (sym same) ∙ (both_true (is_bound n (term_of x)) (all_bound n (terms_of es)) h).0
+bound_at n (x ∷ es) (suc i) e h g =
+    bound_at n es i e (both_true (is_bound n (term_of x)) (all_bound n (terms_of es)) h).1 g
+
+pub assign_step : (ss : List Stmt) (es : List Expr) (vars : List ℕ) (next i : ℕ) (e : Expr) (x : W) → slice_get es i ≡ Some e → operand_of x ≡ operand_for (term_of e) vars → join (block_of (ss ++ stmt.Set (next + i) x ∷ [])) (assignments (terms_of (drop (i + 1) es)) vars (next + (i + 1))) ≡ join (block_of ss) (assignments (terms_of (drop i es)) vars (next + i))
+assign_step ss es vars next i e x h g =
+    let later : next + (i + 1) ≡ next + i + 1 = omega arith in
+    push_front ss (stmt.Set (next + i) x) (Set (next + i) (operand_of x)) (assignments (terms_of (drop (i + 1) es)) vars (next + (i + 1))) (set_copy (next + i) x)
+    ∙ ap (λ n. join (block_of ss) (Cons (Set (next + i) (operand_of x)) (assignments (terms_of (drop (i + 1) es)) vars n))) later
+    ∙ ap (λ o. join (block_of ss) (Cons (Set (next + i) o) (assignments (terms_of (drop (i + 1) es)) vars (next + i + 1)))) g
+    ∙ ap (λ l. join (block_of ss) (assignments (terms_of l) vars (next + i))) (sym (drop_at es i e h))
+
+pub assign_end : (ss : List Stmt) (es : List Expr) (vars : List ℕ) (next i : ℕ) → length es ≤ i → join (block_of ss) (assignments (terms_of (drop i es)) vars (next + i)) ≡ block_of ss
+assign_end ss es vars next i le =
+    ap (λ l. join (block_of ss) (assignments (terms_of l) vars (next + i))) (drop_all i es le) ∙ join-nil (block_of ss)
+
+pub ruleset assign_steps = (bound_at, assign_step, assign_end, terms_of_length)
+
+-- ---- variables
+pub from_step : (vars : List ℕ) (next last v : ℕ) → v < last → (vars ++ v ∷ []) ++ variables_from (v + 1) (last - (v + 1)) ≡ vars ++ variables_from v (last - v)
+from_step vars next last v lt =
+    let e : last - v ≡ suc (last - (v + 1)) = omega arith in
+    append_assoc vars (v ∷ []) (variables_from (v + 1) (last - (v + 1))) ∙ ap (λ n. vars ++ variables_from v n) (sym e)
+
+pub from_end : (vars : List ℕ) (last v : ℕ) → last ≤ v → vars ++ variables_from v (last - v) ≡ vars
+from_end vars last v le = let e : last - v ≡ 0 = omega arith in ap (λ n. vars ++ variables_from v n) e ∙ append-nil vars
+
+pub from_start : (next width : ℕ) → variables_from next (next + width - next) ≡ variables_from next width
+from_start next width = let e : next + width - next ≡ width = omega arith in ap (variables_from next) e
+
+pub ruleset variables_steps = (from_step, from_end, from_start)
+
+-- ---- a row that is printed
+pub print_step : (ss : List Stmt) (vars : List ℕ) (i v : ℕ) → slice_get vars i ≡ Some v → join (block_of (ss ++ stmt.Emit (w.Var v) ∷ [])) (print_block (drop (i + 1) vars)) ≡ join (block_of ss) (print_block (drop i vars))
+print_step ss vars i v h =
+    push_front ss (stmt.Emit (w.Var v)) (Emit (Var v)) (print_block (drop (i + 1) vars)) (emit_copy (w.Var v))
+    ∙ ap (λ l. join (block_of ss) (print_block l)) (sym (drop_at vars i v h))
+
+pub print_end : (ss : List Stmt) (vars : List ℕ) (i : ℕ) → length vars ≤ i → block_of (ss ++ stmt.EndRow ∷ []) ≡ join (block_of ss) (print_block (drop i vars))
+print_end ss vars i le =
+    block_push ss stmt.EndRow ∙ ap (λ s. join (block_of ss) (Cons s Nil)) end_copy ∙ ap (λ l. join (block_of ss) (print_block l)) (sym (drop_all i vars le))
+
+pub ruleset print_steps = (print_step, print_end)
+
+-- ---- a row and a turn
+pub read_step : (ss : List Stmt) (v a : ℕ) (x : W) → block_of (ss ++ stmt.Read v a x ∷ []) ≡ join (block_of ss) (Cons (Read v a (operand_of x)) Nil)
+read_step ss v a x = block_push ss (stmt.Read v a x) ∙ ap (λ s. join (block_of ss) (Cons s Nil)) (read_copy v a x)
+
+pub set_step : (ss : List Stmt) (v : ℕ) (x : W) → block_of (ss ++ stmt.Set v x ∷ []) ≡ join (block_of ss) (Cons (Set v (operand_of x)) Nil)
+set_step ss v x = block_push ss (stmt.Set v x) ∙ ap (λ s. join (block_of ss) (Cons s Nil)) (set_copy v x)
+
+pub loop_step : (ss : List Stmt) (t : T) (body : List Stmt) → block_of (ss ++ stmt.Loop t body ∷ []) ≡ join (block_of ss) (Cons (Loop (test_of t) (block_of body)) Nil)
+loop_step ss t body =
+    block_push ss (stmt.Loop t body) ∙ ap (λ s. join (block_of ss) (Cons s Nil)) (loop_copy t body)
+
+pub ruleset row_steps = (read_step, join_join)
+
+pub ruleset turn_steps = (set_step, loop_step, join_join, typed_bound, typed_few)

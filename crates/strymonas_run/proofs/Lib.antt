@@ -1,0 +1,23 @@
+pub mod Values
+pub mod Joins
+pub mod Variables
+pub mod Turn
+pub mod Emitted
+pub mod Typed
+pub mod Appends
+pub mod Compiled
+pub mod CountsToTwo
+pub mod PrintedText
+pub mod Runs
+pub mod Blanks
+pub mod Digits
+pub mod FirstTokens
+pub mod Lexed
+pub mod ReportLemmas
+pub mod Readings
+pub mod Comings
+mod Formulas
+pub mod Sums
+pub mod Operations
+pub mod Stages
+pub mod Squares

@@ -1,0 +1,84 @@
+//! Statements, each on lines of its own.
+
+ghost use Rattle.std.specs.Prelude.{◌≡◌, ◌≤◌, ◌++◌, OnOk};
+ghost use Rattle.strymonas_run.specs.StatementCopies.{operand_of, test_of, statement_of, block_of};
+ghost use Rattle.strymonas_run.specs.Layout.{set_text, read_text, guard_text, loop_head_text, statement_text, block_text};
+
+use super::operands::{put_operand, put_test};
+use super::pieces::{inside, put, put_indent, put_numbered};
+use crate::loop_ir::{Stmt, T, W};
+use strm_num::NoMemory;
+
+fn put_set(out: &mut Vec<u8>, v: u32, w: &W) -> Result<(), NoMemory>
+    ensures { OnOk result (out.new.items ≡ out.old.items ++ set_text v (operand_of w.now)) }
+{
+    put_numbered(out, b"v", u64::from(v))?;
+    put(out, b" = ")?;
+    put_operand(out, w)?;
+    put(out, b";\n")
+}
+
+fn put_read(out: &mut Vec<u8>, v: u32, a: u32, w: &W) -> Result<(), NoMemory>
+    ensures { OnOk result (out.new.items ≡ out.old.items ++ read_text v a (operand_of w.now)) }
+{
+    put_numbered(out, b"v", u64::from(v))?;
+    put_numbered(out, b" = a", u64::from(a))?;
+    put(out, b"[")?;
+    put_operand(out, w)?;
+    put(out, b"];\n")
+}
+
+/// Puts the line that ends a loop where its test fails.
+fn put_guard(out: &mut Vec<u8>, t: &T) -> Result<(), NoMemory>
+    ensures { OnOk result (out.new.items ≡ out.old.items ++ guard_text (test_of t.now)) }
+{
+    put(out, b"if ")?;
+    put_test(out, t)?;
+    put(out, b" { } else { break; }\n")
+}
+
+/// Puts a loop's first two lines.
+fn put_loop_head(out: &mut Vec<u8>, t: &T, blanks: usize) -> Result<(), NoMemory>
+    requires { blanks ≤ 32 }
+    ensures { OnOk result (out.new.items ≡ out.old.items ++ loop_head_text (test_of t.now) blanks) }
+{
+    put(out, b"while (1) {\n")?;
+    put_indent(out, inside(blanks))?;
+    put_guard(out, t)
+}
+
+#[cycle(statements)]
+fn put_statement(out: &mut Vec<u8>, s: &Stmt, blanks: usize) -> Result<(), NoMemory>
+    requires { blanks ≤ 32 }
+    ensures { OnOk result (out.new.items ≡ out.old.items ++ statement_text (statement_of s.now) blanks) }
+{
+    put_indent(out, blanks)?;
+    match s {
+        Stmt::Set(v, w) => put_set(out, *v, w),
+        Stmt::Read(v, a, w) => put_read(out, *v, *a, w),
+        Stmt::Loop(t, body) => {
+            put_loop_head(out, t, blanks)?;
+            put_block(out, body.as_slice(), inside(blanks))?;
+            put_indent(out, blanks)?;
+            put(out, b"}\n")
+        }
+        Stmt::Emit(w) => {
+            put(out, b"EMIT(")?;
+            put_operand(out, w)?;
+            put(out, b");\n")
+        }
+        Stmt::EndRow => put(out, b"ENDROW();\n"),
+    }
+}
+
+/// Puts statements one after the other, each line of theirs after at least so many blanks.
+#[cycle(statements)]
+pub fn put_block(out: &mut Vec<u8>, body: &[Stmt], blanks: usize) -> Result<(), NoMemory>
+    requires { blanks ≤ 32 }
+    ensures { OnOk result (out.new.items ≡ out.old.items ++ block_text (block_of body.now) blanks) }
+{
+    for s in body {
+        put_statement(out, s, blanks)?;
+    }
+    Ok(())
+}

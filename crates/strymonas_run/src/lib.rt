@@ -1,0 +1,26 @@
+//! The program as a library: a pipeline's text goes in, and its C text comes out.
+//!
+//! It stands on strm_num, strm_io and list_denotation. `run_words` carries the promise: unless
+//! memory is refused or a device fails, each file of the first form is compiled, and what is
+//! written is the text of a loop program that goes no further than the pipeline's lists, and as far
+//! as they do. The modules `loop_ir` and `c_printer` can be used by themselves: `print_c` gives the
+//! layout of any loop program.
+#![tactic(auto)]
+
+pub mod c_printer;
+mod commands;
+mod compiling;
+mod first_form;
+mod lexing;
+mod loop_emit;
+pub mod loop_ir;
+mod reporting;
+mod running;
+mod statuses;
+#[cfg(test)]
+mod tests;
+mod token;
+
+pub use commands::{Job, read_words};
+pub use running::run_words;
+pub use statuses::Status;

@@ -1,0 +1,55 @@
+ghost use Rattle.std.specs.Prelude.{◌≡◌, ◌≤◌, [], ◌++◌, codes};
+ghost use Rattle.strm_io.specs.Appending.{PutsAll, WriteHasCause};
+ghost use Rattle.strymonas_run.specs.Statuses.{line_of, Reports};
+
+use crate::statuses::Status;
+use strm_io::{Sink, WriteFault, put_all};
+
+/// Writes the line of a status, in which the file is named `name`, and nothing for `Done`. It
+/// takes no memory. Where the sink fails, a prefix of the line stands there.
+#[tactic(auto, using(crate::proofs::ReportLemmas::reports))]
+pub fn report<E: Sink>(status: Status, name: &str, err: &mut E)
+    ensures line { Reports (E.written err.old) (E.written err.new) (line_of status name.now) (E.faults err.old) (E.faults err.new) }
+    ensures quiet { status ≡ Status.Done → E.written err.new ≡ E.written err.old }
+{
+    if status != Status::Done {
+        let _written = put_line(err, status, name);
+    }
+}
+
+fn put_line<E: Sink>(err: &mut E, status: Status, name: &str) -> Result<(), WriteFault>
+    ensures puts { PutsAll (E.written err.old) (E.written err.new) (line_of status name.now) result }
+    ensures cause { WriteHasCause (E.faults err.old) (E.faults err.new) result }
+{
+    match status {
+        Status::Done => put_all(err, b""),
+        Status::Words => put_all(err, b"strymonas: words\n"),
+        Status::Missing => put_named(err, b"strymonas: missing: ", name),
+        Status::Refused => put_all(err, b"strymonas: refused: Unbuilt at 0\n"),
+        Status::ReadFault => put_named(err, b"strymonas: read fault: ", name),
+        Status::WriteFault => put_all(err, b"strymonas: write fault\n"),
+        Status::NoMemory => put_all(err, b"strymonas: no memory\n"),
+        Status::TooLong => put_named(err, b"strymonas: too long: ", name),
+    }
+}
+
+// Writes a line that ends with a name.
+#[tactic(auto, using(crate::proofs::ReportLemmas::puts))]
+fn put_named<E: Sink>(err: &mut E, front: &[u8], name: &str) -> Result<(), WriteFault>
+    ensures puts { PutsAll (E.written err.old) (E.written err.new) (front.now ++ name.now ++ codes "\n") result }
+    ensures cause { WriteHasCause (E.faults err.old) (E.faults err.new) result }
+{
+    put_both(err, front, name.as_bytes())?;
+    put_all(err, b"\n")
+}
+
+// Writes one text after another.
+#[tactic(auto, using(crate::proofs::ReportLemmas::puts))]
+fn put_both<E: Sink>(err: &mut E, first: &[u8], second: &[u8]) -> Result<(), WriteFault>
+    ensures puts { PutsAll (E.written err.old) (E.written err.new) (first.now ++ second.now) result }
+    ensures cause { WriteHasCause (E.faults err.old) (E.faults err.new) result }
+    ensures faults { E.faults err.old ≤ E.faults err.new }
+{
+    put_all(err, first)?;
+    put_all(err, second)
+}
