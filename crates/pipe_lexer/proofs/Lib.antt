@@ -1,0 +1,10 @@
+pub mod Runs
+pub mod Digits
+pub mod Sizes
+pub mod Firsts
+pub mod SymbolFronts
+pub mod KeywordTable
+pub mod OnePiece
+pub mod Passing
+pub mod OneAnswer
+pub mod Places

@@ -1,0 +1,7 @@
+pub mod Characters
+pub mod Keywords
+pub mod Symbols
+pub mod Pieces
+pub mod Fronts
+pub mod Lexing
+pub mod Steps

@@ -1,0 +1,99 @@
+ghost use Rattle.std.specs.Prelude.{◌≡◌, ◌<◌, ◌≤◌, ◌+◌, ◌++◌, ◌^◌, length, All, IfOk, OnOk};
+ghost use Rattle.pipe_lexer.specs.Characters.{size_of};
+ghost use Rattle.pipe_lexer.specs.Lexing.{Answer, LexesAs, IsSameUnlessRefused, HasText, AreInOrder, token_of};
+ghost use Rattle.pipe_lexer.specs.Steps.{IsCharacters, IsCut, fault_of};
+
+use crate::fault::LexFault;
+use crate::piece::{Piece, Stop};
+use crate::scanning::front;
+use crate::token::Token;
+use std::alloc::Global;
+use strm_num::{List, NoMemory};
+
+/// The characters of a text.
+fn characters(alloc: Global, src: &[u8]) -> Result<Vec<char>, LexFault>
+    requires { length src.now ≤ 65536 }
+    ensures { IsCharacters src.now result }
+{
+    match std::str::from_utf8(src) {
+        Ok(text) => Ok(text.chars().collect(alloc)?),
+        Err(e) => Err(LexFault::NotUtf8(e.valid_up_to() as u32)),
+    }
+}
+
+/// How many bytes characters have.
+fn size(chars: &[char]) -> u32
+    requires { size_of chars.now < 2 ^ 32 }
+    ensures { result ≡ size_of chars.now }
+{
+    let mut size = 0;
+    for c in chars {
+        size += c.len_utf8() as u32;
+    }
+    size
+}
+
+/// Adds a piece that is a token, with its places.
+fn push_token(found: &mut List<Token>, piece: Piece, at: u32, end: u32) -> Result<(), NoMemory>
+    ensures ok { OnOk result (found.new ≡ found.old ++ token_of piece at end) }
+{
+    match piece {
+        Piece::Blank | Piece::Comment => Ok(()),
+        Piece::Token(kind) => found.push(Token { kind, at, end }),
+    }
+}
+
+/// The fault at a place where the text stops.
+fn fault_at(stop: Stop, at: u32) -> LexFault
+    ensures { result ≡ fault_of stop at }
+{
+    match stop {
+        Stop::BadChar => LexFault::BadChar(at),
+        Stop::NumberTooLarge => LexFault::NumberTooLarge(at),
+    }
+}
+
+/// The tokens of characters, or the fault where they stop.
+fn cut(alloc: Global, chars: &[char]) -> Result<List<Token>, LexFault>
+    requires { size_of chars.now ≤ 65536 }
+    ensures { IsCut chars.now result }
+{
+    let mut found = List::new(alloc);
+    let mut from: usize = 0;
+    let mut at: u32 = 0;
+    while from < chars.len() {
+        match front(&chars[from..]) {
+            Err(stop) => return Err(fault_at(stop, at)),
+            Ok(front) => {
+                let next = from + front.len;
+                let end = at + size(&chars[from..next]);
+                push_token(&mut found, front.piece, at, end)?;
+                from = next;
+                at = end;
+            }
+        }
+    }
+    Ok(found)
+}
+
+/// The tokens of a pipeline text, in its order, or the first fault.
+///
+/// The text is gone through from its start, past one token, blank or comment after another, each
+/// the longest at its place. `NotUtf8` comes exactly where the bytes are not UTF-8, else
+/// `NumberTooLarge` or `BadChar` exactly where no piece begins at the place so reached and the text
+/// goes on there. Nothing is said of when `NoMemory` comes.
+pub fn tokens(alloc: Global, src: &[u8]) -> Result<List<Token>, LexFault>
+    requires { length src.now ≤ 65536 }
+
+    // The tokens are those of the text, and a fault stands at its place.
+    ensures lexes { LexesAs src.now result }
+
+    // Each answer comes exactly where it is right, but for a refusal of memory.
+    ensures only { (other : Answer) → LexesAs src.now other → IsSameUnlessRefused other result }
+
+    ensures texts { IfOk result (All (HasText src.now)) }
+    ensures in_order { IfOk result (λ toks. AreInOrder 0 toks (length src.now)) }
+{
+    let chars = characters(alloc, src)?;
+    cut(alloc, &chars)
+}

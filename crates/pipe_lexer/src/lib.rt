@@ -1,0 +1,25 @@
+//! The tokens of a pipeline text, each with its place in bytes, or the first fault.
+//!
+//! It stands on strm_num for words, the list type and the refusal of memory, on unicode_ident for
+//! the characters of a word, and on thiserror. `tokens` carries the promise: what it answers is
+//! what `LexesAs` of `specs/Lexing` says of the text, and nothing else is, unless memory is
+//! refused.
+#![tactic(auto)]
+
+mod fault;
+mod keyword;
+mod lexing;
+mod operator;
+mod piece;
+mod scanning;
+mod symbol;
+#[cfg(test)]
+mod tests;
+mod token;
+
+pub use fault::LexFault;
+pub use keyword::Keyword;
+pub use lexing::tokens;
+pub use operator::{BinOp, InputKind};
+pub use symbol::Symbol;
+pub use token::{Token, TokenKind};
