@@ -18,9 +18,11 @@ continues_comment c = not (c == 10)
 abbrev pub is_digit : ℕ → Bool
 is_digit c = nat_le 48 c && nat_le c 57
 
+-- an identifier's first character, or _
 abbrev pub begins_word : ℕ → Bool
 begins_word c = is_xid_start c || (c == 95)
 
+-- a character of an identifier behind its first
 abbrev pub continues_word : ℕ → Bool
 continues_word c = is_xid_continue c
 

@@ -18,6 +18,7 @@ pub record StandsAtFront (cs : List ℕ) (p : Piece) (len : ℕ) : Type 0 where
   pub within : len ≤ length cs
   pub piece : IsPiece p (take len cs) (drop len cs)
 
+-- the piece at the front, or why none stands there
 abbrev pub HasFront : List ℕ → Result Front Stop → Type 0
 HasFront cs (Ok front) = StandsAtFront cs front.piece front.len
 HasFront cs (Err stop.BadChar) = IsBadChar cs
@@ -29,6 +30,7 @@ symbol_pair [] = None
 symbol_pair (c ∷ []) = None
 symbol_pair (c ∷ d ∷ cs) = symbol_of_two c d
 
+-- the longest symbol at the front, or that no symbol stands there
 abbrev pub HasSymbol : List ℕ → Option Front → Type 0
 HasSymbol cs None = (s : Symbol) (behind : List ℕ) → cs ≢ symbol_text s ++ behind
 HasSymbol cs (Some front) = StandsAtFront cs front.piece front.len

@@ -21,10 +21,11 @@ abbrev pub BeginsRun : (ℕ → Bool) → (ℕ → Bool) → List ℕ → List �
 BeginsRun begins continues [] rest = ⊥
 BeginsRun begins continues (c ∷ text) rest = (begins c ≡ true) × IsRun continues text rest
 
--- a longest word; a longest run of one digit or more
+-- a keyword or a name, as long as it goes on
 abbrev pub IsWord : List ℕ → List ℕ → Type 0
 IsWord = BeginsRun begins_word continues_word
 
+-- a longest run of one digit or more
 abbrev pub IsDigits : List ℕ → List ℕ → Type 0
 IsDigits = BeginsRun is_digit is_digit
 

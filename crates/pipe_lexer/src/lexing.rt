@@ -76,12 +76,13 @@ fn cut(alloc: Global, chars: &[char]) -> Result<List<Token>, LexFault>
     Ok(found)
 }
 
-/// The tokens of a pipeline text, in its order, or the first fault.
+/// The tokens of a pipeline text of at most 65,536 bytes, in its order, or the first fault.
 ///
-/// The text is gone through from its start, past one token, blank or comment after another, each
-/// the longest at its place. `NotUtf8` comes exactly where the bytes are not UTF-8, else
-/// `NumberTooLarge` or `BadChar` exactly where no piece begins at the place so reached and the text
-/// goes on there. Nothing is said of when `NoMemory` comes.
+/// The text is cut from its start into tokens, blanks and comments, each as long as it can be.
+/// `NotUtf8` comes exactly where the bytes are not UTF-8, with the length of the longest front that
+/// is. In a text the cutting stops where no piece begins before its end, and the place where it
+/// stops is named, in bytes from 0: by `NumberTooLarge` where decimal digits of a value above
+/// 2^63 - 1 stand there, and by `BadChar` at anything else. `NoMemory` may come at any time.
 pub fn tokens(alloc: Global, src: &[u8]) -> Result<List<Token>, LexFault>
     requires { length src.now ≤ 65536 }
 
