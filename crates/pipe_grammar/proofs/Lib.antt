@@ -1,0 +1,13 @@
+pub mod Tables
+pub mod Growth
+pub mod Means
+pub mod Starts
+pub mod Forwards
+pub mod Backwards
+pub mod Expressions
+pub mod Completions
+pub mod Nearness
+pub mod Exactness
+pub mod Alone
+pub mod PrintedTexts
+pub mod TreeTokens

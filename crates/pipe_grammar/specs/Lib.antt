@@ -1,0 +1,13 @@
+pub mod Trees
+pub mod TreeCopies
+pub mod Tokens
+pub mod Operators
+pub mod Joints
+pub mod Grammar
+pub mod Machine
+pub mod Bounds
+pub mod Depths
+pub mod Exactness
+pub mod Expressions
+pub mod Printing
+pub mod TreeTokens

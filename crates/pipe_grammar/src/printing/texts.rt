@@ -1,0 +1,93 @@
+//! Whole texts: the declarations, the stream and the terminal.
+
+ghost use Rattle.std.specs.Prelude.{◌≡◌, ◌-◌, ◌++◌, ◌∷◌, [], codes, length, map, take, IfOk, OnOk};
+ghost use Rattle.pipe_grammar.specs.Grammar.{kind_key};
+ghost use Rattle.pipe_grammar.specs.Printing.{run_text, terminal_words, declaration_words, declarations_words, tree_words, spaced};
+ghost use Rattle.pipe_grammar.specs.Tokens.{Key};
+ghost use Rattle.pipe_grammar.specs.TreeCopies.{terminal_of, declaration_of, text_of};
+
+use super::pieces::{put, put_name, put_word};
+use super::streams::{put_folding, put_stream};
+use crate::tree::{Decl, TTerminal, Tree};
+use pipe_lexer::InputKind;
+use std::alloc::Global;
+use strm_num::NoMemory;
+
+fn put_kind(out: &mut Vec<u8>, kind: InputKind) -> Result<(), NoMemory>
+    ensures { OnOk result (out.new.items ≡ out.old.items ++ run_text (Key (kind_key kind) ∷ [])) }
+{
+    match kind {
+        InputKind::Array => put_word(out, b"array"),
+        InputKind::Int => put_word(out, b"int"),
+    }
+}
+
+/// Puts a declaration, and a line feed behind its semicolon.
+fn put_declaration(out: &mut Vec<u8>, declaration: &Decl) -> Result<(), NoMemory>
+    ensures { OnOk result (out.new.items ≡ out.old.items ++ run_text (declaration_words (declaration_of declaration.now))) }
+{
+    put_word(out, b"input")?;
+    put_name(out, &declaration.name)?;
+    put_word(out, b":")?;
+    put_kind(out, declaration.kind)?;
+    put(out, b";\n")
+}
+
+fn put_declarations(out: &mut Vec<u8>, inputs: &[Decl]) -> Result<(), NoMemory>
+    ensures { OnOk result (out.new.items ≡ out.old.items ++ run_text (declarations_words (map declaration_of inputs.now))) }
+{
+    for declaration in inputs {
+        put_declaration(out, declaration)?;
+    }
+    Ok(())
+}
+
+fn put_terminal(out: &mut Vec<u8>, terminal: &TTerminal) -> Result<(), NoMemory>
+    ensures { OnOk result (out.new.items ≡ out.old.items ++ run_text (terminal_words (terminal_of terminal.now))) }
+{
+    match terminal {
+        TTerminal::Fold {
+            seed,
+            state,
+            pat,
+            next,
+        } => {
+            put_word(out, b"fold")?;
+            put_folding(out, seed, state, pat, next)
+        }
+        TTerminal::Print => put_word(out, b"print"),
+    }
+}
+
+/// Puts all tokens, each with what stands behind it where another follows.
+fn put_tree(out: &mut Vec<u8>, t: &Tree) -> Result<(), NoMemory>
+    ensures { OnOk result (out.new.items ≡ out.old.items ++ run_text (tree_words (text_of t.now))) }
+{
+    put_declarations(out, t.inputs.as_slice())?;
+    put_stream(out, &t.stream)?;
+    put_word(out, b"|")?;
+    put_terminal(out, &t.terminal)
+}
+
+/// Puts a line feed in place of the last byte.
+fn put_end(out: &mut Vec<u8>) -> Result<(), NoMemory>
+    ensures { OnOk result (out.new.items ≡ take (length out.old.items - 1) out.old.items ++ codes "\n") }
+{
+    out.pop();
+    put(out, b"\n")
+}
+
+/// The tree's tokens in order, each as it is written in the language and a number in decimal
+/// without leading zeros. A blank stands between two tokens, but a line feed behind each `;` and
+/// behind the last token. Places make no difference.
+///
+/// The one error is `NoMemory`, where the text doesn't fit in memory.
+#[tactic(auto, using(crate::proofs::PrintedTexts::ends_in_feed))]
+pub fn print_tree(alloc: Global, t: &Tree) -> Result<Vec<u8>, NoMemory>
+    ensures { IfOk result (λ out. out.items ≡ spaced (tree_words (text_of t.now))) }
+{
+    let mut out = Vec::new(alloc);
+    put_tree(&mut out, t)?;
+    put_end(&mut out)?;
+    Ok(out)
+}

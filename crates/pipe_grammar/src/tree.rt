@@ -1,0 +1,127 @@
+use pipe_lexer::{BinOp, InputKind};
+use strm_num::{List, Word};
+
+/// The bytes of a name.
+pub type Text = List<u8>;
+/// The names of a pattern.
+pub type Names = List<Name>;
+/// The expressions of a row.
+pub type TExprs = List<TExpr>;
+/// The stages of a stream.
+pub type TStages = List<TStage>;
+/// The declarations of a text.
+pub type Decls = List<Decl>;
+
+/// A name and its place. Each `at` here is the first byte of the part's first token, counted from 0.
+#[derive(Debug, Drop)]
+pub struct Name {
+    pub at: u32,
+    pub text: Text,
+}
+
+/// An expression and its place.
+#[cycle(exprs)]
+#[derive(Debug, Drop)]
+pub struct TExpr {
+    pub at: u32,
+    pub node: TNode,
+}
+
+/// What an expression is. The number in `Bin` is the operator's place.
+#[cycle(exprs)]
+#[derive(Debug, Drop)]
+pub enum TNode {
+    Num(Word),
+    Truth(bool),
+    Name(Text),
+    Len(Name),
+    Neg(Box<TExpr>),
+    Not(Box<TExpr>),
+    Paren(Box<TExpr>),
+    Bin(BinOp, u32, Box<TExpr>, Box<TExpr>),
+    And(Box<TExpr>, Box<TExpr>),
+    Or(Box<TExpr>, Box<TExpr>),
+    If(Box<TExpr>, Box<TExpr>, Box<TExpr>),
+}
+
+/// A row: one expression without braces, or one and more in braces.
+#[derive(Debug, Drop)]
+pub struct TRow {
+    pub at: u32,
+    pub braces: bool,
+    pub parts: TExprs,
+}
+
+/// A pattern: one name without braces, or one and more in braces.
+#[derive(Debug, Drop)]
+pub struct TPat {
+    pub at: u32,
+    pub braces: bool,
+    pub names: Names,
+}
+
+/// A source with the stages behind it.
+#[cycle(streams)]
+#[derive(Debug, Drop)]
+pub struct TStream {
+    pub at: u32,
+    pub source: TSource,
+    pub stages: TStages,
+}
+
+#[cycle(streams)]
+#[derive(Debug, Drop)]
+pub enum TSource {
+    Array(Name),
+    Range(TExpr, TExpr),
+    Unfold {
+        seed: TRow,
+        pat: TPat,
+        guard: TExpr,
+        item: TRow,
+        next: TRow,
+    },
+    Zip(Box<TStream>, Box<TStream>),
+}
+
+#[cycle(streams)]
+#[derive(Debug, Drop)]
+pub enum TStage {
+    Map(TPat, TRow),
+    Filter(TPat, TExpr),
+    Take(TExpr),
+    Drop(TExpr),
+    TakeWhile(TPat, TExpr),
+    Scan {
+        seed: TRow,
+        state: TPat,
+        pat: TPat,
+        next: TRow,
+    },
+    FlatMap(TPat, Box<TStream>),
+}
+
+#[derive(Debug, Drop)]
+pub enum TTerminal {
+    Fold {
+        seed: TRow,
+        state: TPat,
+        pat: TPat,
+        next: TRow,
+    },
+    Print,
+}
+
+#[derive(Debug, Drop)]
+pub struct Decl {
+    pub name: Name,
+    pub kind: InputKind,
+}
+
+/// The tree of a pipeline text.
+#[derive(Debug, Drop)]
+pub struct Tree {
+    pub inputs: Decls,
+    pub stream: TStream,
+    pub terminal: TTerminal,
+}
