@@ -24,8 +24,8 @@ depth_one (Neg at a) = omega arith
 depth_one (Not at a) = omega arith
 depth_one (Paren at a) = omega arith
 depth_one (Bin at op q a b) = omega arith
-depth_one (And at a b) = omega arith
-depth_one (Or at a b) = omega arith
+depth_one (And at q a b) = omega arith
+depth_one (Or at q a b) = omega arith
 depth_one (If at c a b) = omega arith
 
 depth-join : (joint : Joint) (q : ℕ) (a b : Formula) → depth_of (join joint q a b) ≡ max (depth_of a) (depth_of b) + 1

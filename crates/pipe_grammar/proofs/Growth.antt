@@ -31,16 +31,16 @@ phrase_at (Paren at a) l m x r le h = h
 phrase_at (Neg at a) l m x r le h = (le, h.1)
 phrase_at (Not at a) l m x r le h = (le, h.1)
 phrase_at (Bin at op q a b) l m x r le h = (h.0, le, h.2)
-phrase_at (And at a b) l m x r le h = (h.0, le, h.2)
-phrase_at (Or at a b) l m x r le h = (h.0, le, h.2)
+phrase_at (And at q a b) l m x r le h = (h.0, le, h.2)
+phrase_at (Or at q a b) l m x r le h = (h.0, le, h.2)
 phrase_at (If at c a b) l m x r le h = (le, h.1)
 
 -- two operands and a joint are a phrase
 pub phrase_join : (joint : Joint) (q : ℕ) (a b : Formula) (w x y z : List Tok) → Phrase a (joint_left joint) w x → x ≡ tok (Sym (joint_sign joint)) q ∷ y → Phrase b (joint_right joint) y z
     → Phrase (join joint q a b) (joint_line joint) w z
 phrase_join (Plain op) q a b w x y z h is g = (refl, omega arith, record { rest = x; phrase_is = h; goes_on = record { rest = y; is = is; goes_on = g } })
-phrase_join Both q a b w x y z h is g = (refl, omega arith, record { rest = x; phrase_is = h; goes_on = record { at = q; rest = y; is = is; goes_on = g } })
-phrase_join Either q a b w x y z h is g = (refl, omega arith, record { rest = x; phrase_is = h; goes_on = record { at = q; rest = y; is = is; goes_on = g } })
+phrase_join Both q a b w x y z h is g = (refl, omega arith, record { rest = x; phrase_is = h; goes_on = record { rest = y; is = is; goes_on = g } })
+phrase_join Either q a b w x y z h is g = (refl, omega arith, record { rest = x; phrase_is = h; goes_on = record { rest = y; is = is; goes_on = g } })
 
 -- a phrase that grows is a phrase
 pub phrase_grows : (e : Formula) (l : ℕ) (w r : List Tok) (m : ℕ) (u : Formula) (x : List Tok) → Phrase u m w x → Grows e l r u x → Phrase e l w r

@@ -135,17 +135,17 @@ first_of (Bin at op q a b) l x r K f le h =
     (first_of a (joint_left (Plain op)) x h.2.rest K
     (λ u y g. f u y (subst (λ (n : ℕ). Grows (Bin n op q a b) l r u y) (sym h.0) (grows_more (Plain op) q a b l h.2.rest o.rest r u y h.1 o.is o.goes_on g)))
     (omega (arith, j.left_most)) h.2.phrase_is)
-first_of (And at a b) l x r K f le h =
+first_of (And at q a b) l x r K f le h =
     let o = h.2.goes_on in
     first_looser l 2 K x h.1
     (first_of a 2 x h.2.rest K
-    (λ u y g. f u y (subst (λ (n : ℕ). Grows (And n a b) l r u y) (sym h.0) (grows_more Both o.at a b l h.2.rest o.rest r u y h.1 o.is o.goes_on g)))
+    (λ u y g. f u y (subst (λ (n : ℕ). Grows (And n q a b) l r u y) (sym h.0) (grows_more Both q a b l h.2.rest o.rest r u y h.1 o.is o.goes_on g)))
     (omega arith) h.2.phrase_is)
-first_of (Or at a b) l x r K f le h =
+first_of (Or at q a b) l x r K f le h =
     let o = h.2.goes_on in
     first_looser l 1 K x h.1
     (first_of a 1 x h.2.rest K
-    (λ u y g. f u y (subst (λ (n : ℕ). Grows (Or n a b) l r u y) (sym h.0) (grows_more Either o.at a b l h.2.rest o.rest r u y h.1 o.is o.goes_on g)))
+    (λ u y g. f u y (subst (λ (n : ℕ). Grows (Or n q a b) l r u y) (sym h.0) (grows_more Either q a b l h.2.rest o.rest r u y h.1 o.is o.goes_on g)))
     (omega arith) h.2.phrase_is)
 
 -- ---- and back

@@ -38,10 +38,10 @@ formula_reads (Not at a) l x r h = at_words _ h.1 (λ y k. formula_reads a 6 y r
 formula_reads (Paren at a) l x r h = simp append_assoc (at_words _ h (then_words _ _ (formula_reads a 0) (fixed_words _ (ends r))))
 formula_reads (Bin at op q a b) l x r h =
     simp append_assoc (then_words _ _ (formula_reads a (left_line_of op)) (λ y k. at_words _ k (λ z m. formula_reads b (right_line_of op) z r m)) x h.2)
-formula_reads (And at a b) l x r h =
-    simp append_assoc (then_words _ _ (formula_reads a 2) (fixed_words _ (λ y k. formula_reads b 3 y r k)) x h.2)
-formula_reads (Or at a b) l x r h =
-    simp append_assoc (then_words _ _ (formula_reads a 1) (fixed_words _ (λ y k. formula_reads b 2 y r k)) x h.2)
+formula_reads (And at q a b) l x r h =
+    simp append_assoc (then_words _ _ (formula_reads a 2) (λ y k. at_words _ k (λ z m. formula_reads b 3 z r m)) x h.2)
+formula_reads (Or at q a b) l x r h =
+    simp append_assoc (then_words _ _ (formula_reads a 1) (λ y k. at_words _ k (λ z m. formula_reads b 2 z r m)) x h.2)
 formula_reads (If at c a b) l x r h =
     simp append_assoc (at_words _ h.1 (then_words _ _ (formula_reads c 0) (fixed_words _ (then_words _ _ (formula_reads a 0) (fixed_words _ (λ y k. formula_reads b 0 y r k))))))
 
@@ -112,31 +112,31 @@ mutual
       simp append_assoc (fixed_words _ (then_words _ _ (stage_reads s) (λ y k. stages_read ss y r k)) x h)
 
   stage_reads : (s : Stage) → Reads (IsStage s) (stage_words s)
-  stage_reads (Map p body) x r h =
-      simp append_assoc (fixed_words _ (then_words _ _ (pattern_reads p) (fixed_words _ (λ y k. row_reads body y r k))) x h)
-  stage_reads (Filter p e) x r h =
-      simp append_assoc (fixed_words _ (then_words _ _ (pattern_reads p) (fixed_words _ (λ y k. formula_reads e 0 y r k))) x h)
-  stage_reads (TakeWhile p e) x r h =
-      simp append_assoc (fixed_words _ (then_words _ _ (pattern_reads p) (fixed_words _ (λ y k. formula_reads e 0 y r k))) x h)
-  stage_reads (Take e) x r h = fixed_words _ (λ y k. formula_reads e 0 y r k) x h
-  stage_reads (Drop e) x r h = fixed_words _ (λ y k. formula_reads e 0 y r k) x h
-  stage_reads (Scan seed state pat next) x r h = fixed_words _ (λ y k. folding_reads seed state pat next y r k) x h
-  stage_reads (FlatMap p s) x r h =
+  stage_reads (Map at p body) x r h =
+      simp append_assoc (at_words _ h (then_words _ _ (pattern_reads p) (fixed_words _ (λ y k. row_reads body y r k))))
+  stage_reads (Filter at p e) x r h =
+      simp append_assoc (at_words _ h (then_words _ _ (pattern_reads p) (fixed_words _ (λ y k. formula_reads e 0 y r k))))
+  stage_reads (TakeWhile at p e) x r h =
+      simp append_assoc (at_words _ h (then_words _ _ (pattern_reads p) (fixed_words _ (λ y k. formula_reads e 0 y r k))))
+  stage_reads (Take at e) x r h = at_words _ h (λ y k. formula_reads e 0 y r k)
+  stage_reads (Drop at e) x r h = at_words _ h (λ y k. formula_reads e 0 y r k)
+  stage_reads (Scan at seed state pat next) x r h = at_words _ h (λ y k. folding_reads seed state pat next y r k)
+  stage_reads (FlatMap at p s) x r h =
       simp append_assoc
-      (fixed_words _ (then_words _ _ (pattern_reads p) (fixed_words _ (fixed_words _ (then_words _ _ (stream_reads s) (fixed_words _ (ends r)))))) x h)
+      (at_words _ h (then_words _ _ (pattern_reads p) (fixed_words _ (fixed_words _ (then_words _ _ (stream_reads s) (fixed_words _ (ends r)))))))
 
-terminal_reads : (t : Terminal) → Reads (IsTerminal t) (terminal_words t)
-terminal_reads (Fold seed state pat next) x r h = fixed_words _ (λ y k. folding_reads seed state pat next y r k) x h
-terminal_reads Print x r h = fixed_words _ (ends r) x h
+terminal_reads : (t : Terminal) (at : ℕ) → Reads (IsTerminal t at) (terminal_words t)
+terminal_reads (Fold seed state pat next) at x r h = at_words _ h (λ y k. folding_reads seed state pat next y r k)
+terminal_reads Print at x r h = at_words _ h (ends r)
 
 declarations_read : (ds : List Declaration) → Reads (AreDeclared ds) (declarations_words ds)
 declarations_read [] x r h = ends r x h
 declarations_read (d ∷ ds) x r h =
     simp append_assoc
-    (fixed_words _ (then_words (label_words d.name) _ (label_reads d.name) (fixed_words _ (fixed_words _ (fixed_words _ (λ y k. declarations_read ds y r k))))) x h)
+    (at_words _ h (then_words (label_words d.name) _ (label_reads d.name) (fixed_words _ (fixed_words _ (fixed_words _ (λ y k. declarations_read ds y r k))))))
 
 -- the tokens of a sentence are the words of its tree
 pub sentence_words : (toks : List Tok) (tree : Text) → IsSentence toks tree → words_of toks ≡ tree_words tree
 sentence_words toks tree h =
     simp append_assoc
-    (simp append-nil at (then_words _ _ (declarations_read tree.inputs) (then_words _ _ (stream_reads tree.stream) (fixed_words _ (λ y k. terminal_reads tree.terminal y [] k))) toks h))
+    (simp append-nil at (then_words _ _ (declarations_read tree.inputs) (then_words _ _ (stream_reads tree.stream) (fixed_words _ (λ y k. terminal_reads tree.terminal tree.terminal_at y [] k))) toks h))

@@ -1,6 +1,7 @@
--- The limits of a tree: the depth of its expressions, the nesting of its streams, and its counts.
-use Rattle.std.specs.Prelude.{ℕ, ◌+◌, ◌≤◌, List, [], ◌∷◌, length, max}
-use Rattle.pipe_grammar.specs.Trees.{Formula, Num, Truth, Name, Len, Neg, Not, Paren, Bin, And, Or, If, Stream, From, Source, Array, Range, Unfold, Zip, Stage, Map, Filter, TakeWhile, Take, Drop, Scan, FlatMap, Stages, Nil, Cons, Terminal, Fold, Print, Text}
+-- The limits of a tree: the depth of its expressions, the nesting of its streams, and its counts. What
+-- is counted is listed with its places, in the order of the text.
+use Rattle.std.specs.Prelude.{ℕ, ◌+◌, ◌≤◌, List, [], ◌∷◌, ◌++◌, flat_map, length, map, max}
+use Rattle.pipe_grammar.specs.Trees.{Formula, Num, Truth, Name, Len, Neg, Not, Paren, Bin, And, Or, If, Stream, From, Source, Array, Range, Unfold, Zip, Stage, Map, Filter, TakeWhile, Take, Drop, Scan, FlatMap, Stages, Nil, Cons, Terminal, Fold, Print, Declaration, Text}
 
 abbrev pub depth_of : Formula → ℕ
 depth_of (Num at w) = 1
@@ -11,96 +12,115 @@ depth_of (Neg at a) = depth_of a + 1
 depth_of (Not at a) = depth_of a + 1
 depth_of (Paren at a) = depth_of a + 1
 depth_of (Bin at op q a b) = max (depth_of a) (depth_of b) + 1
-depth_of (And at a b) = max (depth_of a) (depth_of b) + 1
-depth_of (Or at a b) = max (depth_of a) (depth_of b) + 1
+depth_of (And at q a b) = max (depth_of a) (depth_of b) + 1
+depth_of (Or at q a b) = max (depth_of a) (depth_of b) + 1
 depth_of (If at c a b) = max (depth_of c) (max (depth_of a) (depth_of b)) + 1
-
--- the nodes of an expression, parentheses too
-abbrev pub nodes_of : Formula → ℕ
-nodes_of (Num at w) = 1
-nodes_of (Truth at b) = 1
-nodes_of (Name at n) = 1
-nodes_of (Len at q n) = 1
-nodes_of (Neg at a) = nodes_of a + 1
-nodes_of (Not at a) = nodes_of a + 1
-nodes_of (Paren at a) = nodes_of a + 1
-nodes_of (Bin at op q a b) = nodes_of a + nodes_of b + 1
-nodes_of (And at a b) = nodes_of a + nodes_of b + 1
-nodes_of (Or at a b) = nodes_of a + nodes_of b + 1
-nodes_of (If at c a b) = nodes_of c + nodes_of a + nodes_of b + 1
 
 abbrev pub row_depth : List Formula → ℕ
 row_depth [] = 0
 row_depth (e ∷ es) = max (depth_of e) (row_depth es)
 
-abbrev pub row_nodes : List Formula → ℕ
-row_nodes [] = 0
-row_nodes (e ∷ es) = nodes_of e + row_nodes es
+-- the places of the nodes of an expression, parentheses too: an operator between two operands stands
+-- behind the left one
+abbrev pub heads_of : Formula → List ℕ
+heads_of (Num at w) = at ∷ []
+heads_of (Truth at b) = at ∷ []
+heads_of (Name at n) = at ∷ []
+heads_of (Len at q n) = at ∷ []
+heads_of (Neg at a) = at ∷ heads_of a
+heads_of (Not at a) = at ∷ heads_of a
+heads_of (Paren at a) = at ∷ heads_of a
+heads_of (Bin at op q a b) = heads_of a ++ q ∷ heads_of b
+heads_of (And at q a b) = heads_of a ++ q ∷ heads_of b
+heads_of (Or at q a b) = heads_of a ++ q ∷ heads_of b
+heads_of (If at c a b) = at ∷ heads_of c ++ heads_of a ++ heads_of b
 
--- a measure of a stream: what its expressions and its parts have, put together
-module _ (of_formula : Formula → ℕ) (of_row : List Formula → ℕ) (put : ℕ → ℕ → ℕ) where
+abbrev pub row_heads : List Formula → List ℕ
+row_heads = flat_map heads_of
+
+-- what a stream's expressions have, put together in the order of the text
+module _ {A : Type 0} (none : A) (of_formula : Formula → A) (of_row : List Formula → A) (put : A → A → A) where
   abbrev mutual
-    pub stream_sum : Stream → ℕ
-    stream_sum (From at source stages) = put (source_sum source) (stages_sum stages)
+    pub of_stream : Stream → A
+    of_stream (From at source stages) = put (of_source source) (of_stages stages)
 
-    pub source_sum : Source → ℕ
-    source_sum (Array n) = 0
-    source_sum (Range a b) = put (of_formula a) (of_formula b)
-    source_sum (Unfold seed pat guard item next) = put (of_row seed.parts) (put (of_formula guard) (put (of_row item.parts) (of_row next.parts)))
-    source_sum (Zip a b) = put (stream_sum a) (stream_sum b)
+    pub of_source : Source → A
+    of_source (Array n) = none
+    of_source (Range a b) = put (of_formula a) (of_formula b)
+    of_source (Unfold seed pat guard item next) = put (of_row seed.parts) (put (of_formula guard) (put (of_row item.parts) (of_row next.parts)))
+    of_source (Zip a b) = put (of_stream a) (of_stream b)
 
-    pub stages_sum : Stages → ℕ
-    stages_sum Nil = 0
-    stages_sum (Cons s ss) = put (stage_sum s) (stages_sum ss)
+    pub of_stages : Stages → A
+    of_stages Nil = none
+    of_stages (Cons s ss) = put (of_stage s) (of_stages ss)
 
-    pub stage_sum : Stage → ℕ
-    stage_sum (Map p body) = of_row body.parts
-    stage_sum (Filter p e) = of_formula e
-    stage_sum (TakeWhile p e) = of_formula e
-    stage_sum (Take e) = of_formula e
-    stage_sum (Drop e) = of_formula e
-    stage_sum (Scan seed state pat next) = put (of_row seed.parts) (of_row next.parts)
-    stage_sum (FlatMap p s) = stream_sum s
+    pub of_stage : Stage → A
+    of_stage (Map at p body) = of_row body.parts
+    of_stage (Filter at p e) = of_formula e
+    of_stage (TakeWhile at p e) = of_formula e
+    of_stage (Take at e) = of_formula e
+    of_stage (Drop at e) = of_formula e
+    of_stage (Scan at seed state pat next) = put (of_row seed.parts) (of_row next.parts)
+    of_stage (FlatMap at p s) = of_stream s
 
-  abbrev pub terminal_sum : Terminal → ℕ
-  terminal_sum (Fold seed state pat next) = put (of_row seed.parts) (of_row next.parts)
-  terminal_sum Print = 0
+  abbrev pub of_terminal : Terminal → A
+  of_terminal (Fold seed state pat next) = put (of_row seed.parts) (of_row next.parts)
+  of_terminal Print = none
 
-abbrev pub plus : ℕ → ℕ → ℕ
-plus x y = x + y
+-- the greatest depth of an expression
+abbrev pub stream_depth : Stream → ℕ
+stream_depth = of_stream 0 depth_of row_depth max
+
+abbrev pub stages_depth : Stages → ℕ
+stages_depth = of_stages 0 depth_of row_depth max
+
+abbrev pub terminal_depth : Terminal → ℕ
+terminal_depth = of_terminal 0 depth_of row_depth max
 
 abbrev pub text_depth : Text → ℕ
-text_depth t = max (stream_sum depth_of row_depth max t.stream) (terminal_sum depth_of row_depth max t.terminal)
+text_depth t = max (stream_depth t.stream) (terminal_depth t.terminal)
 
-abbrev pub text_nodes : Text → ℕ
-text_nodes t = stream_sum nodes_of row_nodes plus t.stream + terminal_sum nodes_of row_nodes plus t.terminal
+-- the places of all nodes
+abbrev pub stream_heads : Stream → List ℕ
+stream_heads = of_stream [] heads_of row_heads ◌++◌
+
+abbrev pub terminal_heads : Terminal → List ℕ
+terminal_heads = of_terminal [] heads_of row_heads ◌++◌
+
+abbrev pub text_heads : Text → List ℕ
+text_heads t = stream_heads t.stream ++ terminal_heads t.terminal
 
 abbrev mutual
-  -- sources and stages
-  pub stream_ops : Stream → ℕ
-  stream_ops (From at source stages) = source_ops source + stages_ops stages
+  -- the places of sources and stages
+  pub stream_ops : Stream → List ℕ
+  stream_ops (From at source stages) = at ∷ source_ops source ++ stages_ops stages
 
-  pub source_ops : Source → ℕ
-  source_ops (Array n) = 1
-  source_ops (Range a b) = 1
-  source_ops (Unfold seed pat guard item next) = 1
-  source_ops (Zip a b) = stream_ops a + stream_ops b + 1
+  pub source_ops : Source → List ℕ
+  source_ops (Array n) = []
+  source_ops (Range a b) = []
+  source_ops (Unfold seed pat guard item next) = []
+  source_ops (Zip a b) = stream_ops a ++ stream_ops b
 
-  pub stages_ops : Stages → ℕ
-  stages_ops Nil = 0
-  stages_ops (Cons s ss) = stage_ops s + stages_ops ss
+  pub stages_ops : Stages → List ℕ
+  stages_ops Nil = []
+  stages_ops (Cons s ss) = stage_ops s ++ stages_ops ss
 
-  pub stage_ops : Stage → ℕ
-  stage_ops (FlatMap p s) = stream_ops s + 1
-  stage_ops (Map p body) = 1
-  stage_ops (Filter p e) = 1
-  stage_ops (TakeWhile p e) = 1
-  stage_ops (Take e) = 1
-  stage_ops (Drop e) = 1
-  stage_ops (Scan seed state pat next) = 1
+  pub stage_ops : Stage → List ℕ
+  stage_ops (Map at p body) = at ∷ []
+  stage_ops (Filter at p e) = at ∷ []
+  stage_ops (TakeWhile at p e) = at ∷ []
+  stage_ops (Take at e) = at ∷ []
+  stage_ops (Drop at e) = at ∷ []
+  stage_ops (Scan at seed state pat next) = at ∷ []
+  stage_ops (FlatMap at p s) = at ∷ stream_ops s
 
-abbrev pub text_ops : Text → ℕ
-text_ops t = stream_ops t.stream + 1
+-- the places of all operators: sources, stages and the terminal
+abbrev pub text_ops : Text → List ℕ
+text_ops t = stream_ops t.stream ++ t.terminal_at ∷ []
+
+-- the places of all declarations
+abbrev pub text_inputs : Text → List ℕ
+text_inputs t = map (λ (d : Declaration). d.at) t.inputs
 
 abbrev mutual
   -- the whole stream has nesting 1, and what stands in a `zip` or a `flatMap` one more than it
@@ -118,18 +138,22 @@ abbrev mutual
   stages_nesting (Cons s ss) = max (stage_nesting s) (stages_nesting ss)
 
   pub stage_nesting : Stage → ℕ
-  stage_nesting (FlatMap p s) = stream_nesting s + 1
-  stage_nesting (Map p body) = 1
-  stage_nesting (Filter p e) = 1
-  stage_nesting (TakeWhile p e) = 1
-  stage_nesting (Take e) = 1
-  stage_nesting (Drop e) = 1
-  stage_nesting (Scan seed state pat next) = 1
+  stage_nesting (FlatMap at p s) = stream_nesting s + 1
+  stage_nesting (Map at p body) = 1
+  stage_nesting (Filter at p e) = 1
+  stage_nesting (TakeWhile at p e) = 1
+  stage_nesting (Take at e) = 1
+  stage_nesting (Drop at e) = 1
+  stage_nesting (Scan at seed state pat next) = 1
+
+-- the depths are within the limits
+pub record IsWithinDepths (t : Text) : Type 0 where
+  pub depth : text_depth t ≤ 200
+  pub nesting : stream_nesting t.stream ≤ 16
 
 -- the depths and the three counts are within the limits
 pub record IsBounded (t : Text) : Type 0 where
-  pub depth : text_depth t ≤ 200
-  pub nesting : stream_nesting t.stream ≤ 16
-  pub inputs : length t.inputs ≤ 16
-  pub ops : text_ops t ≤ 128
-  pub nodes : text_nodes t ≤ 8192
+  pub within : IsWithinDepths t
+  pub inputs : length (text_inputs t) ≤ 16
+  pub ops : length (text_ops t) ≤ 128
+  pub nodes : length (text_heads t) ≤ 8192

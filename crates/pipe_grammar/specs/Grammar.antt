@@ -46,8 +46,8 @@ Phrase (Neg at a) l x r = (l ≤ 6) × At (Sym sym.Minus) at (λ y. Phrase a 6 y
 Phrase (Not at a) l x r = (l ≤ 6) × At (Sym sym.Bang) at (λ y. Phrase a 6 y r) x
 Phrase (Bin at op q a b) l x r =
     (at ≡ place_of a) × (l ≤ line_of op) × Then (Phrase a (left_line_of op)) (At (Sym (sign_of op)) q (λ y. Phrase b (right_line_of op) y r)) x
-Phrase (And at a b) l x r = (at ≡ place_of a) × (l ≤ 2) × Then (Phrase a 2) (Fixed (Sym sym.AndAnd) (λ y. Phrase b 3 y r)) x
-Phrase (Or at a b) l x r = (at ≡ place_of a) × (l ≤ 1) × Then (Phrase a 1) (Fixed (Sym sym.BarBar) (λ y. Phrase b 2 y r)) x
+Phrase (And at q a b) l x r = (at ≡ place_of a) × (l ≤ 2) × Then (Phrase a 2) (At (Sym sym.AndAnd) q (λ y. Phrase b 3 y r)) x
+Phrase (Or at q a b) l x r = (at ≡ place_of a) × (l ≤ 1) × Then (Phrase a 1) (At (Sym sym.BarBar) q (λ y. Phrase b 2 y r)) x
 Phrase (If at c a b) l x r =
     (l ≤ 0) × At (Key key.If) at (Then (Phrase c 0) (Fixed (Key key.Then) (Then (Phrase a 0) (Fixed (Key key.Else) (λ y. Phrase b 0 y r))))) x
 
@@ -118,18 +118,18 @@ abbrev mutual
   AreStages (Cons s ss) x r = Fixed (Sym sym.Bar) (Then (IsStage s) (λ y. AreStages ss y r)) x
 
   pub IsStage : Stage → List Tok → List Tok → Type 0
-  IsStage (Map p body) x r = Fixed (Key key.Map) (Then (IsPattern p) (Fixed (Sym sym.Arrow) (λ y. IsRow body y r))) x
-  IsStage (Filter p e) x r = Fixed (Key key.Filter) (Then (IsPattern p) (Fixed (Sym sym.Arrow) (λ y. Phrase e 0 y r))) x
-  IsStage (TakeWhile p e) x r = Fixed (Key key.TakeWhile) (Then (IsPattern p) (Fixed (Sym sym.Arrow) (λ y. Phrase e 0 y r))) x
-  IsStage (Take e) x r = Fixed (Key key.Take) (λ y. Phrase e 0 y r) x
-  IsStage (Drop e) x r = Fixed (Key key.Drop) (λ y. Phrase e 0 y r) x
-  IsStage (Scan seed state pat next) x r = Fixed (Key key.Scan) (λ y. IsFolding seed state pat next y r) x
-  IsStage (FlatMap p s) x r =
-      Fixed (Key key.FlatMap) (Then (IsPattern p) (Fixed (Sym sym.Arrow) (Fixed (Sym sym.OpenParen) (Then (IsStream s) (Fixed (Sym sym.CloseParen) (Ends r)))))) x
+  IsStage (Map at p body) x r = At (Key key.Map) at (Then (IsPattern p) (Fixed (Sym sym.Arrow) (λ y. IsRow body y r))) x
+  IsStage (Filter at p e) x r = At (Key key.Filter) at (Then (IsPattern p) (Fixed (Sym sym.Arrow) (λ y. Phrase e 0 y r))) x
+  IsStage (TakeWhile at p e) x r = At (Key key.TakeWhile) at (Then (IsPattern p) (Fixed (Sym sym.Arrow) (λ y. Phrase e 0 y r))) x
+  IsStage (Take at e) x r = At (Key key.Take) at (λ y. Phrase e 0 y r) x
+  IsStage (Drop at e) x r = At (Key key.Drop) at (λ y. Phrase e 0 y r) x
+  IsStage (Scan at seed state pat next) x r = At (Key key.Scan) at (λ y. IsFolding seed state pat next y r) x
+  IsStage (FlatMap at p s) x r =
+      At (Key key.FlatMap) at (Then (IsPattern p) (Fixed (Sym sym.Arrow) (Fixed (Sym sym.OpenParen) (Then (IsStream s) (Fixed (Sym sym.CloseParen) (Ends r)))))) x
 
-abbrev pub IsTerminal : Terminal → List Tok → List Tok → Type 0
-IsTerminal (Fold seed state pat next) x r = Fixed (Key key.Fold) (λ y. IsFolding seed state pat next y r) x
-IsTerminal Print x r = Fixed (Key key.Print) (Ends r) x
+abbrev pub IsTerminal : Terminal → ℕ → List Tok → List Tok → Type 0
+IsTerminal (Fold seed state pat next) at x r = At (Key key.Fold) at (λ y. IsFolding seed state pat next y r) x
+IsTerminal Print at x r = At (Key key.Print) at (Ends r) x
 
 abbrev pub kind_key : InputKind → Keyword
 kind_key input.Array = key.Array
@@ -139,9 +139,9 @@ kind_key input.Int = key.Int
 abbrev pub AreDeclared : List Declaration → List Tok → List Tok → Type 0
 AreDeclared [] x r = x ≡ r
 AreDeclared (d ∷ ds) x r =
-    Fixed (Key key.Input) (Then (IsLabel d.name) (Fixed (Sym sym.Colon) (Fixed (Key (kind_key d.kind)) (Fixed (Sym sym.Semicolon) (λ y. AreDeclared ds y r))))) x
+    At (Key key.Input) d.at (Then (IsLabel d.name) (Fixed (Sym sym.Colon) (Fixed (Key (kind_key d.kind)) (Fixed (Sym sym.Semicolon) (λ y. AreDeclared ds y r))))) x
 
 -- { decl } stream "|" terminal: the tokens are those of the tree, all of them
 abbrev pub IsSentence : List Tok → Text → Type 0
 IsSentence toks tree =
-    Then (AreDeclared tree.inputs) (Then (IsStream tree.stream) (Fixed (Sym sym.Bar) (λ y. IsTerminal tree.terminal y []))) toks
+    Then (AreDeclared tree.inputs) (Then (IsStream tree.stream) (Fixed (Sym sym.Bar) (λ y. IsTerminal tree.terminal tree.terminal_at y []))) toks

@@ -35,8 +35,8 @@ joint_right Either = 2
 -- two operands, with this joint at this place between them
 abbrev pub join : Joint → ℕ → Formula → Formula → Formula
 join (Plain op) q a b = Bin (place_of a) op q a b
-join Both q a b = And (place_of a) a b
-join Either q a b = Or (place_of a) a b
+join Both q a b = And (place_of a) q a b
+join Either q a b = Or (place_of a) q a b
 
 -- the tightest line that a tree stands on
 abbrev pub tightest : Formula → ℕ
@@ -48,6 +48,6 @@ tightest (Neg at a) = 6
 tightest (Not at a) = 6
 tightest (Paren at a) = 7
 tightest (Bin at op q a b) = line_of op
-tightest (And at a b) = 2
-tightest (Or at a b) = 1
+tightest (And at q a b) = 2
+tightest (Or at q a b) = 1
 tightest (If at c a b) = 0

@@ -19,8 +19,8 @@ formula_words (Neg at a) = Sym sym.Minus ∷ formula_words a
 formula_words (Not at a) = Sym sym.Bang ∷ formula_words a
 formula_words (Paren at a) = Sym sym.OpenParen ∷ formula_words a ++ Sym sym.CloseParen ∷ []
 formula_words (Bin at op q a b) = formula_words a ++ Sym (sign_of op) ∷ formula_words b
-formula_words (And at a b) = formula_words a ++ Sym sym.AndAnd ∷ formula_words b
-formula_words (Or at a b) = formula_words a ++ Sym sym.BarBar ∷ formula_words b
+formula_words (And at q a b) = formula_words a ++ Sym sym.AndAnd ∷ formula_words b
+formula_words (Or at q a b) = formula_words a ++ Sym sym.BarBar ∷ formula_words b
 formula_words (If at c a b) = Key key.If ∷ formula_words c ++ Key key.Then ∷ formula_words a ++ Key key.Else ∷ formula_words b
 
 -- parts with a comma before each
@@ -77,13 +77,13 @@ abbrev mutual
 
   -- the words of a stage, without its bar
   pub stage_words : Stage → List What
-  stage_words (Map p body) = Key key.Map ∷ pattern_words p ++ Sym sym.Arrow ∷ row_words body
-  stage_words (Filter p e) = Key key.Filter ∷ pattern_words p ++ Sym sym.Arrow ∷ formula_words e
-  stage_words (TakeWhile p e) = Key key.TakeWhile ∷ pattern_words p ++ Sym sym.Arrow ∷ formula_words e
-  stage_words (Take e) = Key key.Take ∷ formula_words e
-  stage_words (Drop e) = Key key.Drop ∷ formula_words e
-  stage_words (Scan seed state pat next) = Key key.Scan ∷ folding_words seed state pat next
-  stage_words (FlatMap p s) =
+  stage_words (Map at p body) = Key key.Map ∷ pattern_words p ++ Sym sym.Arrow ∷ row_words body
+  stage_words (Filter at p e) = Key key.Filter ∷ pattern_words p ++ Sym sym.Arrow ∷ formula_words e
+  stage_words (TakeWhile at p e) = Key key.TakeWhile ∷ pattern_words p ++ Sym sym.Arrow ∷ formula_words e
+  stage_words (Take at e) = Key key.Take ∷ formula_words e
+  stage_words (Drop at e) = Key key.Drop ∷ formula_words e
+  stage_words (Scan at seed state pat next) = Key key.Scan ∷ folding_words seed state pat next
+  stage_words (FlatMap at p s) =
       Key key.FlatMap ∷ pattern_words p ++ Sym sym.Arrow ∷ Sym sym.OpenParen ∷ stream_words s ++ Sym sym.CloseParen ∷ []
 
 -- the words of a terminal, without its bar

@@ -8,7 +8,7 @@ use Rattle.pipe_grammar.specs.declared.tree.TRow.{TRow}
 use Rattle.pipe_grammar.specs.declared.tree.TPat.{TPat}
 use Rattle.pipe_grammar.specs.declared.tree.TStream.{TStream}
 use Rattle.pipe_grammar.specs.declared.tree.TSource.{TSource}
-use Rattle.pipe_grammar.specs.declared.tree.TSource.TheOpen.{TSource-F, TStage-F, TStream-F}
+use Rattle.pipe_grammar.specs.declared.tree.TSource.TheOpen.{TSource-F, TStage-F, TStageNode-F, TStream-F}
 use Rattle.pipe_grammar.specs.declared.tree.TSource.TheFolds.{fold-TStream, fold-TSource, fold-TStage}
 use Rattle.pipe_grammar.specs.declared.tree.TStage.{TStage}
 use Rattle.pipe_grammar.specs.declared.tree.TTerminal.{TTerminal}
@@ -30,8 +30,8 @@ formula_at at (node.Neg' p i a) = t.Neg at (formula_at i a)
 formula_at at (node.Not' p i a) = t.Not at (formula_at i a)
 formula_at at (node.Paren' p i a) = t.Paren at (formula_at i a)
 formula_at at (node.Bin' o q p i a r j b) = t.Bin at o q (formula_at i a) (formula_at j b)
-formula_at at (node.And' p i a r j b) = t.And at (formula_at i a) (formula_at j b)
-formula_at at (node.Or' p i a r j b) = t.Or at (formula_at i a) (formula_at j b)
+formula_at at (node.And' q p i a r j b) = t.And at q (formula_at i a) (formula_at j b)
+formula_at at (node.Or' q p i a r j b) = t.Or at q (formula_at i a) (formula_at j b)
 formula_at at (node.If' p i c q j a r k b) = t.If at (formula_at i c) (formula_at j a) (formula_at k b)
 
 abbrev pub formula_of : TExpr → Formula
@@ -48,33 +48,36 @@ abbrev pub listed : List Stage → Stages
 listed [] = t.Nil
 listed (s ∷ ss) = t.Cons s (listed ss)
 
--- sources, stages and streams whose parts are plain already
-abbrev pub source_step : TSource-F Source Stage Stream → Source
+-- sources, stages and streams whose parts are plain already; what a stage is awaits its place
+abbrev pub source_step : TSource-F Source (ℕ → Stage) Stage Stream → Source
 source_step (TSource-F.Array n) = t.Array (label_of n)
 source_step (TSource-F.Range a b) = t.Range (formula_of a) (formula_of b)
 source_step (TSource-F.Unfold s p g i n) = t.Unfold (row_of s) (pattern_of p) (formula_of g) (row_of i) (row_of n)
 source_step (TSource-F.Zip a b) = t.Zip a.value b.value
 
-abbrev pub stage_step : TStage-F Source Stage Stream → Stage
-stage_step (TStage-F.Map p r) = t.Map (pattern_of p) (row_of r)
-stage_step (TStage-F.Filter p e) = t.Filter (pattern_of p) (formula_of e)
-stage_step (TStage-F.Take e) = t.Take (formula_of e)
-stage_step (TStage-F.Drop e) = t.Drop (formula_of e)
-stage_step (TStage-F.TakeWhile p e) = t.TakeWhile (pattern_of p) (formula_of e)
-stage_step (TStage-F.Scan s q p n) = t.Scan (row_of s) (pattern_of q) (pattern_of p) (row_of n)
-stage_step (TStage-F.FlatMap p s) = t.FlatMap (pattern_of p) s.value
+abbrev pub stage_node_step : TStageNode-F Source (ℕ → Stage) Stage Stream → ℕ → Stage
+stage_node_step (TStageNode-F.Map p r) at = t.Map at (pattern_of p) (row_of r)
+stage_node_step (TStageNode-F.Filter p e) at = t.Filter at (pattern_of p) (formula_of e)
+stage_node_step (TStageNode-F.Take e) at = t.Take at (formula_of e)
+stage_node_step (TStageNode-F.Drop e) at = t.Drop at (formula_of e)
+stage_node_step (TStageNode-F.TakeWhile p e) at = t.TakeWhile at (pattern_of p) (formula_of e)
+stage_node_step (TStageNode-F.Scan s q p n) at = t.Scan at (row_of s) (pattern_of q) (pattern_of p) (row_of n)
+stage_node_step (TStageNode-F.FlatMap p s) at = t.FlatMap at (pattern_of p) s.value
 
-abbrev pub stream_step : TStream-F Source Stage Stream → Stream
+abbrev pub stage_step : TStage-F Source (ℕ → Stage) Stage Stream → Stage
+stage_step s = s.node s.at
+
+abbrev pub stream_step : TStream-F Source (ℕ → Stage) Stage Stream → Stream
 stream_step s = t.From s.at s.source (listed s.stages)
 
 abbrev pub stream_of : TStream → Stream
-stream_of = fold-TStream Source Stage Stream source_step stage_step stream_step
+stream_of = fold-TStream Source (ℕ → Stage) Stage Stream source_step stage_node_step stage_step stream_step
 
 abbrev pub source_of : TSource → Source
-source_of = fold-TSource Source Stage Stream source_step stage_step stream_step
+source_of = fold-TSource Source (ℕ → Stage) Stage Stream source_step stage_node_step stage_step stream_step
 
 abbrev pub stage_of : TStage → Stage
-stage_of = fold-TStage Source Stage Stream source_step stage_step stream_step
+stage_of = fold-TStage Source (ℕ → Stage) Stage Stream source_step stage_node_step stage_step stream_step
 
 abbrev pub stages_of : List TStage → Stages
 stages_of ss = listed (map stage_of ss)
@@ -84,7 +87,7 @@ terminal_of (terminal.Fold s q p n) = t.Fold (row_of s) (pattern_of q) (pattern_
 terminal_of terminal.Print = t.Print
 
 abbrev pub declaration_of : Decl → Declaration
-declaration_of d = record { name = label_of d.name; kind = d.kind }
+declaration_of d = record { at = d.at; name = label_of d.name; kind = d.kind }
 
 abbrev pub text_of : Tree → Text
-text_of x = record { inputs = map declaration_of x.inputs; stream = stream_of x.stream; terminal = terminal_of x.terminal }
+text_of x = record { inputs = map declaration_of x.inputs; stream = stream_of x.stream; terminal_at = x.terminal_at; terminal = terminal_of x.terminal }

@@ -11,7 +11,7 @@ pub data Formula : Type 0 where
   Len : (at name_at : ℕ) (text : List ℕ) → Formula
   Neg Not Paren : (at : ℕ) (a : Formula) → Formula
   Bin : (at : ℕ) (op : BinOp) (op_at : ℕ) (a b : Formula) → Formula
-  And Or : (at : ℕ) (a b : Formula) → Formula
+  And Or : (at op_at : ℕ) (a b : Formula) → Formula
   If : (at : ℕ) (c a b : Formula) → Formula
 
 -- the place of an expression's first token
@@ -24,8 +24,8 @@ place_of (Neg at a) = at
 place_of (Not at a) = at
 place_of (Paren at a) = at
 place_of (Bin at op q a b) = at
-place_of (And at a b) = at
-place_of (Or at a b) = at
+place_of (And at q a b) = at
+place_of (Or at q a b) = at
 place_of (If at c a b) = at
 
 pub record Label : Type 0 where
@@ -53,11 +53,11 @@ mutual
     Zip : Stream → Stream → Source
 
   pub data Stage : Type 0 where
-    Map : Pattern → Row → Stage
-    Filter TakeWhile : Pattern → Formula → Stage
-    Take Drop : Formula → Stage
-    Scan : (seed : Row) (state pat : Pattern) (next : Row) → Stage
-    FlatMap : Pattern → Stream → Stage
+    Map : (at : ℕ) → Pattern → Row → Stage
+    Filter TakeWhile : (at : ℕ) → Pattern → Formula → Stage
+    Take Drop : (at : ℕ) → Formula → Stage
+    Scan : (at : ℕ) (seed : Row) (state pat : Pattern) (next : Row) → Stage
+    FlatMap : (at : ℕ) → Pattern → Stream → Stage
 
   pub data Stages : Type 0 where
     Nil : Stages
@@ -68,10 +68,12 @@ pub data Terminal : Type 0 where
   Print : Terminal
 
 pub record Declaration : Type 0 where
+  pub at : ℕ
   pub name : Label
   pub kind : InputKind
 
 pub record Text : Type 0 where
   pub inputs : List Declaration
   pub stream : Stream
+  pub terminal_at : ℕ
   pub terminal : Terminal

@@ -19,6 +19,6 @@ pub use laws::{
 };
 pub use printing::print_tree;
 pub use tree::{
-    Decl, Decls, Name, Names, TExpr, TExprs, TNode, TPat, TRow, TSource, TStage, TStages, TStream,
-    TTerminal, Text, Tree,
+    Decl, Decls, Name, Names, TExpr, TExprs, TNode, TPat, TRow, TSource, TStage, TStageNode, TStages,
+    TStream, TTerminal, Text, Tree,
 };

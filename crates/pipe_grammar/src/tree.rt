@@ -27,7 +27,7 @@ pub struct TExpr {
     pub node: TNode,
 }
 
-/// What an expression is. The number in `Bin` is the operator's place.
+/// What an expression is. The number in `Bin`, `And` and `Or` is the operator's place.
 #[cycle(exprs)]
 #[derive(Debug, Drop)]
 pub enum TNode {
@@ -39,8 +39,8 @@ pub enum TNode {
     Not(Box<TExpr>),
     Paren(Box<TExpr>),
     Bin(BinOp, u32, Box<TExpr>, Box<TExpr>),
-    And(Box<TExpr>, Box<TExpr>),
-    Or(Box<TExpr>, Box<TExpr>),
+    And(u32, Box<TExpr>, Box<TExpr>),
+    Or(u32, Box<TExpr>, Box<TExpr>),
     If(Box<TExpr>, Box<TExpr>, Box<TExpr>),
 }
 
@@ -69,6 +69,7 @@ pub struct TStream {
     pub stages: TStages,
 }
 
+/// What a stream's rows come from.
 #[cycle(streams)]
 #[derive(Debug, Drop)]
 pub enum TSource {
@@ -84,9 +85,18 @@ pub enum TSource {
     Zip(Box<TStream>, Box<TStream>),
 }
 
+/// A stage and the place of its keyword.
 #[cycle(streams)]
 #[derive(Debug, Drop)]
-pub enum TStage {
+pub struct TStage {
+    pub at: u32,
+    pub node: TStageNode,
+}
+
+/// What a stage is.
+#[cycle(streams)]
+#[derive(Debug, Drop)]
+pub enum TStageNode {
     Map(TPat, TRow),
     Filter(TPat, TExpr),
     Take(TExpr),
@@ -101,6 +111,7 @@ pub enum TStage {
     FlatMap(TPat, Box<TStream>),
 }
 
+/// What is done with the rows of the whole stream.
 #[derive(Debug, Drop)]
 pub enum TTerminal {
     Fold {
@@ -112,16 +123,19 @@ pub enum TTerminal {
     Print,
 }
 
+/// A declaration of an input.
 #[derive(Debug, Drop)]
 pub struct Decl {
+    pub at: u32,
     pub name: Name,
     pub kind: InputKind,
 }
 
-/// The tree of a pipeline text.
+/// The tree of a pipeline text, and the place of its terminal's keyword.
 #[derive(Debug, Drop)]
 pub struct Tree {
     pub inputs: Decls,
     pub stream: TStream,
+    pub terminal_at: u32,
     pub terminal: TTerminal,
 }

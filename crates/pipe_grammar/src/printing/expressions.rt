@@ -52,12 +52,12 @@ pub fn put_expression(out: &mut Vec<u8>, e: &TExpr) -> Result<(), NoMemory>
             put_sign(out, *op)?;
             put_expression(out, b)
         }
-        TNode::And(a, b) => {
+        TNode::And(_, a, b) => {
             put_expression(out, a)?;
             put_word(out, b"&&")?;
             put_expression(out, b)
         }
-        TNode::Or(a, b) => {
+        TNode::Or(_, a, b) => {
             put_expression(out, a)?;
             put_word(out, b"||")?;
             put_expression(out, b)

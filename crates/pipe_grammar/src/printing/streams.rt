@@ -9,7 +9,7 @@ ghost use Rattle.pipe_grammar.specs.TreeCopies.{formula_of, row_of, pattern_of, 
 use super::expressions::put_expression;
 use super::pieces::{put_name, put_word};
 use super::rows::{put_pattern, put_row};
-use crate::tree::{TExpr, TPat, TRow, TSource, TStage, TStream};
+use crate::tree::{TExpr, TPat, TRow, TSource, TStage, TStageNode, TStream};
 use pipe_lexer::Symbol;
 use strm_num::NoMemory;
 
@@ -106,31 +106,31 @@ fn put_binding(out: &mut Vec<u8>, pat: &TPat) -> Result<(), NoMemory>
 fn put_stage(out: &mut Vec<u8>, stage: &TStage) -> Result<(), NoMemory>
     ensures { OnOk result (out.new.items ≡ out.old.items ++ run_text (stage_words (stage_of stage.now))) }
 {
-    match stage {
-        TStage::Map(pat, body) => {
+    match &stage.node {
+        TStageNode::Map(pat, body) => {
             put_word(out, b"map")?;
             put_binding(out, pat)?;
             put_row(out, body)
         }
-        TStage::Filter(pat, test) => {
+        TStageNode::Filter(pat, test) => {
             put_word(out, b"filter")?;
             put_binding(out, pat)?;
             put_expression(out, test)
         }
-        TStage::Take(count) => {
+        TStageNode::Take(count) => {
             put_word(out, b"take")?;
             put_expression(out, count)
         }
-        TStage::Drop(count) => {
+        TStageNode::Drop(count) => {
             put_word(out, b"drop")?;
             put_expression(out, count)
         }
-        TStage::TakeWhile(pat, test) => {
+        TStageNode::TakeWhile(pat, test) => {
             put_word(out, b"takeWhile")?;
             put_binding(out, pat)?;
             put_expression(out, test)
         }
-        TStage::Scan {
+        TStageNode::Scan {
             seed,
             state,
             pat,
@@ -139,7 +139,7 @@ fn put_stage(out: &mut Vec<u8>, stage: &TStage) -> Result<(), NoMemory>
             put_word(out, b"scan")?;
             put_folding(out, seed, state, pat, next)
         }
-        TStage::FlatMap(pat, inner) => {
+        TStageNode::FlatMap(pat, inner) => {
             put_word(out, b"flatMap")?;
             put_binding(out, pat)?;
             put_word(out, b"(")?;

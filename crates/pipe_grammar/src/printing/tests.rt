@@ -1,6 +1,6 @@
 use super::print_tree;
 use crate::tree::{
-    Decl, Name, TExpr, TNode, TPat, TRow, TSource, TStage, TStream, TTerminal, Tree,
+    Decl, Name, TExpr, TNode, TPat, TRow, TSource, TStage, TStageNode, TStream, TTerminal, Tree,
 };
 use pipe_lexer::{BinOp, InputKind};
 use std::alloc::Global;
@@ -62,7 +62,10 @@ fn pattern(alloc: Global, text: &[u8]) -> Result<TPat, NoMemory> {
 fn even(alloc: Global) -> Result<TStage, NoMemory> {
     let rest = operation(alloc, BinOp::Rem, variable(alloc, b"x")?, number(2))?;
     let test = operation(alloc, BinOp::Eq, rest, number(0))?;
-    Ok(TStage::Filter(pattern(alloc, b"x")?, test))
+    Ok(TStage {
+        at: 0,
+        node: TStageNode::Filter(pattern(alloc, b"x")?, test),
+    })
 }
 
 fn squared(alloc: Global) -> Result<TStage, NoMemory> {
@@ -72,7 +75,10 @@ fn squared(alloc: Global) -> Result<TStage, NoMemory> {
         variable(alloc, b"x")?,
         variable(alloc, b"x")?,
     )?;
-    Ok(TStage::Map(pattern(alloc, b"x")?, row(alloc, square)?))
+    Ok(TStage {
+        at: 0,
+        node: TStageNode::Map(pattern(alloc, b"x")?, row(alloc, square)?),
+    })
 }
 
 fn sum(alloc: Global) -> Result<TTerminal, NoMemory> {
@@ -95,6 +101,7 @@ fn prints_a_declaration_and_a_fold(rt: HostRuntime) -> Result<(), Fail> {
     let alloc = rt.alloc();
     let mut inputs = List::new(alloc);
     inputs.push(Decl {
+        at: 0,
         name: name(alloc, b"a")?,
         kind: InputKind::Array,
     })?;
@@ -108,6 +115,7 @@ fn prints_a_declaration_and_a_fold(rt: HostRuntime) -> Result<(), Fail> {
             source: TSource::Array(name(alloc, b"a")?),
             stages,
         },
+        terminal_at: 0,
         terminal: sum(alloc)?,
     };
     assert_eq!(rt; print_tree(alloc, &t)?.as_slice(), SUM_OF_EVEN_SQUARES);
