@@ -9,5 +9,8 @@ pub mod Bounds
 pub mod Depths
 pub mod Exactness
 pub mod Expressions
+pub mod Continuations
+pub mod Parsing
+pub mod Reads
 pub mod Printing
 pub mod TreeTokens

