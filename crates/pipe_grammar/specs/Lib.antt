@@ -8,7 +8,6 @@ pub mod Machine
 pub mod Bounds
 pub mod Depths
 pub mod Exactness
-pub mod Expressions
 pub mod Continuations
 pub mod Parsing
 pub mod Reads

@@ -5,7 +5,7 @@ use Rattle.pipe_lexer.specs.declared.keyword.Keyword.TheVariants as key
 use Rattle.pipe_lexer.specs.declared.operator.BinOp.TheVariants.{Add, Sub, Mul, Div, Rem, Eq, Ne, Lt, Le, Gt, Ge}
 use Rattle.pipe_lexer.specs.declared.symbol.Symbol.TheVariants as symbol
 use Rattle.pipe_grammar.specs.Joints.{Joint, Plain, Both, Either, joint_line, joint_left, joint_right, join, tightest}
-use Rattle.pipe_grammar.specs.Tokens.{What, Named, Number, Key, Sym, Tok}
+use Rattle.pipe_grammar.specs.Tokens.{What, Named, Number, Key, Sym}
 use Rattle.pipe_grammar.specs.Trees.{Formula, Num, Truth, Name, Len, Neg, Not, Paren, If}
 
 -- a form whose last operand is awaited
@@ -197,34 +197,8 @@ finish (Calls s at) = Stuck
 finish (Spells s at) = Stuck
 finish (Closes s at q n) = Stuck
 
--- the tree that was read and the tokens that are left; or the tokens from the one that nothing goes on with
-pub data Reading : Type 0 where
-  Reads : Formula → List Tok → Reading
-  Fails : List Tok → Reading
-
-abbrev pub went : Step → (State → Reading) → List Tok → Reading
-went (Goes s) next x = next s
-went (Leaves u) next x = Reads u x
-went Stuck next x = Fails x
-
-abbrev pub ended : Step → Reading
-ended (Goes s) = Fails []
-ended (Leaves u) = Reads u []
-ended Stuck = Fails []
-
-abbrev pub read : State → List Tok → Reading
-read s [] = ended (finish s)
-read s (t ∷ x) = went (step s t.what t.at) (λ n. read n x) (t ∷ x)
-
-abbrev pub read_expression : List Tok → Reading
-read_expression x = read (Need []) x
-
--- no expression goes on with what is left: no operator is next
+-- no expression goes on with this: it is no operator
 abbrev pub IsForeign : Follow → Type 0
 IsForeign (Operator joint) = ⊥
 IsForeign (Marks m) = Unit {0}
 IsForeign Foreign = Unit {0}
-
-abbrev pub EndsExpression : List Tok → Type 0
-EndsExpression [] = Unit {0}
-EndsExpression (t ∷ x) = IsForeign (follow_of t.what)

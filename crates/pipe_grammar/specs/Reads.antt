@@ -1,6 +1,6 @@
 -- What reading a form gives: the reader of texts, wherever the form stands in what is still to come, comes
 -- from these tokens to those with the form's tree, or stops there.
-use Rattle.std.specs.Prelude.{◌≡◌, ℕ, List, Bool, true, Result, Ok, Err}
+use Rattle.std.specs.Prelude.{◌≡◌, ℕ, List, true, Result, Ok, Err}
 use Rattle.pipe_grammar.specs.declared.fault.ParseFault.{ParseFault}
 use Rattle.pipe_grammar.specs.declared.fault.ParseFault.TheVariants as fault
 use Rattle.pipe_grammar.specs.Continuations.{Continuation, is_near, read_from}

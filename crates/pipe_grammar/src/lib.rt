@@ -1,12 +1,11 @@
-//! The grammar of the pipeline language: trees, what their tokens are, their text, and the reader of
-//! expressions on lists.
+//! The grammar of the pipeline language: trees, their tokens and their text, and the reader of tokens.
 //!
-//! It stands on pipe_lexer for the tokens, on strm_num for lists, and on itoa for numbers.
-//! `specs/Grammar` says by cases, a line of the grammar each, which tokens a tree has. `print_tree`
-//! carries the promise on a tree's text, which the laws tie to the grammar. `specs/Machine` is a reader
-//! of expressions as a step over one token and the forms that are open; it doesn't know what the
-//! expression stands in. The laws say that it reads the phrases of the grammar, all of them and nothing
-//! else, and that the places of its faults are exact. No code reads whole texts here yet.
+//! It stands on pipe_lexer for the tokens, on strm_num for lists, on itoa for numbers and on thiserror.
+//! `specs/Grammar` says by cases, a line of the grammar each, which tokens a tree has, and `specs/Bounds`
+//! what is within the limits. `parse` carries the promise on tokens: it answers a tree exactly where the
+//! tokens are a sentence within the limits, and each fault exactly at its place. `print_tree` carries the
+//! promise on a tree's text. `specs/Machine` and `specs/Continuations` are the reader as a definition, a
+//! step over one token each; the laws say that it is exact, and the code follows it.
 #![tactic(auto)]
 
 mod fault;
@@ -17,12 +16,11 @@ mod tree;
 
 pub use fault::ParseFault;
 pub use laws::{
-    expressions_are_exact, expressions_within_are_read, phrases_are_read, phrases_have_one_tree,
-    reads_phrases, sentences_have_tree_words,
+    answers_are_one, sentences_have_one_tree, sentences_have_tree_words, texts_are_read_exactly,
 };
 pub use printing::print_tree;
 pub use reading::parse;
 pub use tree::{
-    Decl, Decls, Name, Names, TExpr, TExprs, TNode, TPat, TRow, TSource, TStage, TStageNode, TStages,
-    TStream, TTerminal, Text, Tree,
+    Decl, Decls, Name, Names, TExpr, TExprs, TNode, TPat, TRow, TSource, TStage, TStageNode,
+    TStages, TStream, TTerminal, Text, Tree,
 };

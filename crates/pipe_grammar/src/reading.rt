@@ -8,11 +8,10 @@ ghost use Rattle.pipe_grammar.specs.Tokens.{toks_of};
 
 mod separator;
 
-pub use separator::Separator;
-
 use crate::fault::ParseFault;
 use crate::tree::Tree;
 use pipe_lexer::Token;
+pub use separator::Separator;
 use std::alloc::Global;
 
 /// The tree of the tokens of a text.
