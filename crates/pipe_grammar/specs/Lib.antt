@@ -13,3 +13,5 @@ pub mod Parsing
 pub mod Reads
 pub mod Printing
 pub mod TreeTokens
+pub mod LeadCopies
+pub mod Readers

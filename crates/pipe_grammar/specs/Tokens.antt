@@ -1,5 +1,5 @@
 -- Tokens as the grammar sees them: what they are, with the text of a name, and their place.
-use Rattle.std.specs.Prelude.{ℕ, List, map, slice_range}
+use Rattle.std.specs.Prelude.{ℕ, ◌≤◌, List, All, map, slice_range}
 use Rattle.pipe_lexer.specs.declared.keyword.Keyword.{Keyword}
 use Rattle.pipe_lexer.specs.declared.symbol.Symbol.{Symbol}
 use Rattle.pipe_lexer.specs.declared.token.Token.{Token}
@@ -32,3 +32,10 @@ tok_of src t = tok (what_of t.kind (slice_range src t.at t.end)) t.at
 
 abbrev pub toks_of : List ℕ → List Token → List Tok
 toks_of src toks = map (tok_of src) toks
+
+-- the token's text is a part of a source of this length
+abbrev pub IsSlice : ℕ → Token → Type 0
+IsSlice end t = (t.at ≤ t.end) × (t.end ≤ end)
+
+abbrev pub AreSlices : ℕ → List Token → Type 0
+AreSlices end toks = All (IsSlice end) toks

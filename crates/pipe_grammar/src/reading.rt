@@ -6,6 +6,8 @@ ghost use Rattle.pipe_lexer.specs.Lexing.{IsLexed};
 ghost use Rattle.pipe_grammar.specs.Parsing.{Answer, ParsesAs, IsSameUnlessRefused, answer_of};
 ghost use Rattle.pipe_grammar.specs.Tokens.{toks_of};
 
+mod lead;
+mod reader;
 mod separator;
 
 use crate::fault::ParseFault;
