@@ -11,6 +11,7 @@ pub mod Exactness
 pub mod Continuations
 pub mod Parsing
 pub mod Reads
+pub mod MachineCopies
 pub mod Printing
 pub mod TreeTokens
 pub mod LeadCopies

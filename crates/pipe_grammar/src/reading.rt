@@ -6,9 +6,16 @@ ghost use Rattle.pipe_lexer.specs.Lexing.{IsLexed};
 ghost use Rattle.pipe_grammar.specs.Parsing.{Answer, ParsesAs, IsSameUnlessRefused, answer_of};
 ghost use Rattle.pipe_grammar.specs.Tokens.{toks_of};
 
+mod depths;
+mod frames;
 mod lead;
+mod lines;
+mod opened;
+mod operand;
 mod reader;
 mod separator;
+mod wholes;
+mod words;
 
 use crate::fault::ParseFault;
 use crate::tree::Tree;
