@@ -25,3 +25,4 @@ pub mod OneAnswer
 pub mod WholeTexts
 pub mod PrintedTexts
 pub mod TreeTokens
+pub mod Wholes

@@ -1,10 +1,12 @@
 -- The plain copies of what the code holds while it reads an expression: the forms that are open, what
 -- is awaited, and tokens as it sees them.
-use Rattle.std.specs.Prelude.{ℕ, List, map}
+use Rattle.std.specs.Prelude.{ℕ, List, ◌∷◌, map, Option, Some, None}
 use Rattle.pipe_grammar.specs.declared.reading.frames.Joint.{Joint}
 use Rattle.pipe_grammar.specs.declared.reading.frames.Joint.TheVariants as joint
 use Rattle.pipe_grammar.specs.declared.reading.frames.Final.{Final}
 use Rattle.pipe_grammar.specs.declared.reading.frames.Final.TheVariants as final
+use Rattle.pipe_grammar.specs.declared.reading.frames.Inner.{Inner}
+use Rattle.pipe_grammar.specs.declared.reading.frames.Inner.TheVariants as inner
 use Rattle.pipe_grammar.specs.declared.reading.frames.Frame.{Frame}
 use Rattle.pipe_grammar.specs.declared.reading.frames.Frame.TheVariants as frame
 use Rattle.pipe_grammar.specs.declared.reading.frames.Mode.{Mode}
@@ -33,11 +35,14 @@ final_of (final.Denies at) = m.Denies at
 final_of (final.Joins joint q a) = m.Joins (joint_of joint) q (formula_of a.expr)
 final_of (final.Chooses at c a) = m.Chooses at (formula_of c.expr) (formula_of a.expr)
 
+abbrev pub inner_of : Inner → m.Frame
+inner_of (inner.Encloses at) = m.Encloses at
+inner_of (inner.Tests at) = m.Tests at
+inner_of (inner.Branches at c) = m.Branches at (formula_of c.expr)
+
 abbrev pub frame_of : Frame → m.Frame
 frame_of (frame.Last f) = m.Last (final_of f)
-frame_of (frame.Encloses at) = m.Encloses at
-frame_of (frame.Tests at) = m.Tests at
-frame_of (frame.Branches at c) = m.Branches at (formula_of c.expr)
+frame_of (frame.Inside f) = inner_of f
 
 abbrev pub frames_of : List Frame → List m.Frame
 frames_of forms = map frame_of forms
@@ -77,3 +82,8 @@ abbrev pub follow_copy : Follow → m.Follow
 follow_copy (follow.Operator joint) = m.Operator (joint_of joint)
 follow_copy (follow.Marks mark) = m.Marks (mark_of mark)
 follow_copy follow.Foreign = m.Foreign
+
+-- the form that this joint opens with a left operand; or something else where there is none
+abbrev pub joined : Option Joint → List m.Frame → Formula → ℕ → m.Step → m.Step
+joined None s u at other = other
+joined (Some joint) s u at other = m.Goes (m.Need (m.Last (m.Joins (joint_of joint) at u) ∷ s))

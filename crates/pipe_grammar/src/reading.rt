@@ -14,6 +14,7 @@ mod opened;
 mod operand;
 mod reader;
 mod separator;
+mod stepping;
 mod wholes;
 mod words;
 

@@ -5,7 +5,7 @@ ghost use Rattle.pipe_grammar.specs.Depths.{final_depth, frame_depth, near_of};
 ghost use Rattle.pipe_grammar.specs.Machine.{at_most};
 ghost use Rattle.pipe_grammar.specs.MachineCopies.{final_of, frame_of, state_of};
 
-use super::frames::{Final, Frame, Mode};
+use super::frames::{Final, Frame, Inner, Mode};
 use super::opened::Stack;
 use super::operand::{DEEPEST, depth_around};
 
@@ -26,8 +26,8 @@ fn frame_depth(form: &Frame) -> u32
 {
     match form {
         Frame::Last(form) => final_depth(form),
-        Frame::Encloses(_) | Frame::Tests(_) => 2,
-        Frame::Branches(_, test) => depth_around(test.depth.max(1)),
+        Frame::Inside(Inner::Encloses(_) | Inner::Tests(_)) => 2,
+        Frame::Inside(Inner::Branches(_, test)) => depth_around(test.depth.max(1)),
     }
 }
 

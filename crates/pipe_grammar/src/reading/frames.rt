@@ -20,14 +20,20 @@ pub enum Final {
     Chooses(u32, Operand, Operand),
 }
 
-/// An open form, with the place of its first token. But for the first, they await what stands in
-/// parentheses, after `if` and after `then`.
+/// A form, with the place of its first token, of which an inner operand is awaited: what stands in
+/// parentheses, after `if` or after `then`.
 #[derive(Debug, Drop)]
-pub enum Frame {
-    Last(Final),
+pub enum Inner {
     Encloses(u32),
     Tests(u32),
     Branches(u32, Operand),
+}
+
+/// An open form.
+#[derive(Debug, Drop)]
+pub enum Frame {
+    Last(Final),
+    Inside(Inner),
 }
 
 /// What an expression awaits: an operand; what follows the operand that is there; or behind a `len`

@@ -1,15 +1,16 @@
 //! The lines of the grammar of expressions, from the loosest: 0 any expression, 1 `||`, 2 `&&`,
 //! 3 comparisons, 4 sums, 5 products, 6 `-` and `!`, 7 the tightest.
 
-ghost use Rattle.std.specs.Prelude.{◌≡◌};
+ghost use Rattle.std.specs.Prelude.{◌≡◌, ℕ};
 ghost use Rattle.pipe_grammar.specs.Joints.{joint_line, joint_left, joint_right, tightest};
-ghost use Rattle.pipe_grammar.specs.Machine.{wants, fits, at_most};
-ghost use Rattle.pipe_grammar.specs.MachineCopies.{joint_of, frames_of};
+ghost use Rattle.pipe_grammar.specs.Machine.{wants, fits, at_most, grown, Step};
+ghost use Rattle.pipe_grammar.specs.MachineCopies.{joint_of, frames_of, follow_copy, joined};
 ghost use Rattle.pipe_grammar.specs.Operators.{line_of, left_line_of, right_line_of};
 ghost use Rattle.pipe_grammar.specs.TreeCopies.{formula_of};
 
 use super::frames::{Final, Frame, Joint};
 use super::opened::Stack;
+use super::words::Follow;
 use crate::tree::{TExpr, TNode};
 use pipe_lexer::BinOp;
 
@@ -106,10 +107,27 @@ fn wanted_line(forms: &Stack<Frame>) -> u8
 }
 
 /// Whether the expression may be the left operand of this operator inside the open forms.
-pub fn may_join(forms: &Stack<Frame>, e: &TExpr, joint: Joint) -> bool
+fn may_join(forms: &Stack<Frame>, e: &TExpr, joint: Joint) -> bool
     ensures { result ≡ fits (frames_of forms.now) (formula_of e.now) (joint_of joint) }
 {
     wanted_line(forms) <= line(joint) && left_line(joint) <= tightest_line(e)
+}
+
+/// The operator that takes the expression as its left operand; none if the token is none, or one that
+/// may not take it.
+pub fn operator_behind(forms: &Stack<Frame>, e: &TExpr, follow: Follow) -> Option<Joint>
+    ensures { (at : ℕ) (other : Step) → grown (follow_copy follow) (frames_of forms.now) (formula_of e.now) at other ≡ joined result (frames_of forms.now) (formula_of e.now) at other }
+{
+    match follow {
+        Follow::Operator(joint) => {
+            if may_join(forms, e, joint) {
+                Some(joint)
+            } else {
+                None
+            }
+        }
+        Follow::Marks(_) | Follow::Foreign => None,
+    }
 }
 
 /// Whether a condition may begin inside the open forms: only where any expression may stand.
