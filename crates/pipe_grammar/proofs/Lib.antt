@@ -26,3 +26,4 @@ pub mod WholeTexts
 pub mod PrintedTexts
 pub mod TreeTokens
 pub mod Wholes
+pub mod ExpressionSteps

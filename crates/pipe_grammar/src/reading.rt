@@ -7,6 +7,7 @@ ghost use Rattle.pipe_grammar.specs.Parsing.{Answer, ParsesAs, IsSameUnlessRefus
 ghost use Rattle.pipe_grammar.specs.Tokens.{toks_of};
 
 mod depths;
+mod expressions;
 mod frames;
 mod lead;
 mod lines;

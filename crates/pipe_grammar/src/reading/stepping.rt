@@ -1,6 +1,7 @@
 //! One step of the reader of expressions, over one token.
 
-ghost use Rattle.std.specs.Prelude.{◌≡◌, ◌∷◌, ℕ, List, IfOk, cond};
+ghost use Rattle.std.specs.Prelude.{◌≡◌, ◌∷◌, ℕ, List, IfOk, cond, option_map};
+ghost use Rattle.pipe_grammar.specs.Expressions.{tree_of};
 ghost use Rattle.pipe_grammar.specs.Machine.{Need, Goes, Stuck, started, start_of, marked, pop, shift, spelled, step, finish};
 ghost use Rattle.pipe_grammar.specs.MachineCopies.{frame_of, inner_of, frames_of, state_of, step_of, mark_of, follow_copy};
 ghost use Rattle.pipe_grammar.specs.Machine as machine;
@@ -15,7 +16,7 @@ use super::operand::Operand;
 use super::reader::Reader;
 use super::wholes::{enclose, leaf, whole};
 use super::words::{Follow, Mark, Start, follow_of, start_of};
-use crate::tree::{Name, TNode};
+use crate::tree::{Name, TExpr, TNode};
 use pipe_lexer::TokenKind;
 use std::alloc::Global;
 use strm_num::NoMemory;
@@ -135,12 +136,16 @@ pub fn step(reader: &Reader, forms: &mut Stack<Frame>, mode: Mode, kind: TokenKi
     }
 }
 
-/// What the end of the tokens leads to: the expression is whole, or it isn't and no token is left.
-pub fn finish(alloc: Global, forms: &mut Stack<Frame>, mode: Mode) -> Result<Step, NoMemory>
-    ensures { IfOk result (λ next. step_of next forms.new ≡ finish (state_of mode forms.old)) }
+/// The expression at the end of the tokens; none if it isn't whole there.
+pub fn finish(alloc: Global, forms: &mut Stack<Frame>, mode: Mode) -> Result<Option<TExpr>, NoMemory>
+    ensures { IfOk result (λ whole. option_map formula_of whole ≡ tree_of (finish (state_of mode forms.old))) }
 {
-    match mode {
-        Mode::Have(operand) => shift(alloc, forms, operand, Follow::Foreign, 0),
-        Mode::Need | Mode::Calls(_) | Mode::Spells(_) | Mode::Closes(..) => Ok(Step::Stuck),
+    let Mode::Have(operand) = mode else {
+        return Ok(None);
+    };
+    match shift(alloc, forms, operand, Follow::Foreign, 0)? {
+        Step::Leaves(e) => Ok(Some(e)),
+        Step::Goes(_) => Ok(None),
+        Step::Stuck => Ok(None),
     }
 }

@@ -1,0 +1,21 @@
+-- What the reader of texts makes of tokens where it is in an expression that the first of them makes too
+-- deep.
+use Rattle.std.proofs.Common.{◌≡◌, ℕ, List, [], ◌∷◌, Option, Some, None, false, refl, ap, ◌∙◌}
+use Rattle.pipe_lexer.specs.declared.token.Token.{Token}
+use Rattle.pipe_lexer.specs.declared.token.TokenKind.{TokenKind}
+use Rattle.pipe_grammar.specs.Continuations.{Continuation, AnExpression, read_from}
+use Rattle.pipe_grammar.specs.Depths.{near_of}
+use Rattle.pipe_grammar.specs.Exactness.{TooDeep}
+use Rattle.pipe_grammar.specs.Machine.{State, Goes, step, at_most}
+use Rattle.pipe_grammar.specs.Parsing.{place_or_end}
+use Rattle.pipe_grammar.specs.Readers.{kind_left, text_at}
+use Rattle.pipe_grammar.specs.Tokens.{what_of, toks_of}
+use Rattle.pipe_grammar.specs.Trees.{Formula}
+
+-- the next token is given by its kind, its text and its place
+pub goes_deep : (end : ℕ) (src : List ℕ) (ts : List Token) (kind : TokenKind) (s n : State) (f : Formula → Continuation) → Some kind ≡ kind_left ts → Goes n ≡ step s (what_of kind (text_at src ts)) (place_or_end end (toks_of src ts)) → at_most (near_of n) 200 ≡ false → read_from (AnExpression s f) (toks_of src ts) ≡ TooDeep (toks_of src ts)
+goes_deep end src [] kind s n f k e deep = absurd cc
+goes_deep end src (t ∷ ts) kind s n f k e deep =
+    let is : kind ≡ t.kind = cc in
+    let here : Goes n ≡ step s (what_of t.kind (text_at src (t ∷ ts))) t.at = rw is at e in
+    rw (← here, deep) refl
