@@ -6,8 +6,8 @@ ghost use Rattle.pipe_grammar.specs.Machine.{at_most};
 ghost use Rattle.pipe_grammar.specs.MachineCopies.{final_of, frame_of, state_of};
 
 use super::frames::{Final, Frame, Inner, Mode};
-use super::opened::Stack;
 use super::operand::{DEEPEST, depth_around};
+use super::stack::Stack;
 
 /// The depth of a form with the least last operand, counted up to 201.
 fn final_depth(form: &Final) -> u32

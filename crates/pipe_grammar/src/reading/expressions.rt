@@ -7,8 +7,8 @@ ghost use Rattle.pipe_grammar.specs.TreeCopies.{formula_of};
 
 use super::depths::is_near;
 use super::frames::{Mode, Step};
-use super::opened::Stack;
 use super::reader::Reader;
+use super::stack::Stack;
 use super::stepping::{finish, step};
 use crate::fault::ParseFault;
 use crate::tree::TExpr;

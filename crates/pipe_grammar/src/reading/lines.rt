@@ -9,7 +9,7 @@ ghost use Rattle.pipe_grammar.specs.Operators.{line_of, left_line_of, right_line
 ghost use Rattle.pipe_grammar.specs.TreeCopies.{formula_of};
 
 use super::frames::{Final, Frame, Joint};
-use super::opened::Stack;
+use super::stack::Stack;
 use super::words::Follow;
 use crate::tree::{TExpr, TNode};
 use pipe_lexer::BinOp;

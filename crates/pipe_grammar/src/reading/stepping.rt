@@ -11,9 +11,9 @@ ghost use Rattle.pipe_grammar.specs.TreeCopies.{formula_of};
 
 use super::frames::{Final, Frame, Inner, Mode, Step};
 use super::lines::{may_test, operator_behind};
-use super::opened::Stack;
 use super::operand::Operand;
 use super::reader::Reader;
+use super::stack::Stack;
 use super::wholes::{enclose, leaf, whole};
 use super::words::{Follow, Mark, Start, follow_of, start_of};
 use crate::tree::{Name, TExpr, TNode};
@@ -31,7 +31,12 @@ fn open(forms: &mut Stack<Frame>, form: Frame) -> Result<Step, NoMemory>
 
 /// Begins an operand with the next token, which has this kind and place.
 #[tactic(auto, using(crate::proofs::Tables::wants_most))]
-fn start(reader: &Reader, forms: &mut Stack<Frame>, kind: TokenKind, at: u32) -> Result<Step, NoMemory>
+fn start(
+    reader: &Reader,
+    forms: &mut Stack<Frame>,
+    kind: TokenKind,
+    at: u32,
+) -> Result<Step, NoMemory>
     ensures { IfOk result (λ next. step_of next forms.new ≡ started (frames_of forms.old) (start_of (what_of kind (text_left reader.now)) at)) }
 {
     match start_of(kind) {
@@ -64,7 +69,13 @@ fn is_mark(follow: Follow, mark: Mark) -> bool
 }
 
 /// Goes on in a form with its inner operand, if the next token is the word that stands behind it.
-fn close(alloc: Global, forms: &mut Stack<Frame>, form: Inner, operand: Operand, follow: Follow) -> Result<Step, NoMemory>
+fn close(
+    alloc: Global,
+    forms: &mut Stack<Frame>,
+    form: Inner,
+    operand: Operand,
+    follow: Follow,
+) -> Result<Step, NoMemory>
     ensures { IfOk result (λ next. (at : ℕ) → step_of next forms.new ≡ pop (inner_of form ∷ frames_of forms.old) (formula_of operand.expr) (follow_copy follow) at) }
 {
     match form {
@@ -91,10 +102,15 @@ fn close(alloc: Global, forms: &mut Stack<Frame>, form: Inner, operand: Operand,
 
 /// Goes on behind an operand. The next token follows it so, at this place; the operand is whole where
 /// no operator takes it first.
-fn shift(alloc: Global, forms: &mut Stack<Frame>, operand: Operand, follow: Follow, at: u32) -> Result<Step, NoMemory>
+fn shift(
+    alloc: Global,
+    forms: &mut Stack<Frame>,
+    mut operand: Operand,
+    follow: Follow,
+    at: u32,
+) -> Result<Step, NoMemory>
     ensures { IfOk result (λ next. step_of next forms.new ≡ shift (frames_of forms.old) (formula_of operand.expr) (follow_copy follow) at) }
 {
-    let mut operand = operand;
     loop {
         if let Some(joint) = operator_behind(forms, &operand.expr, follow) {
             return open(forms, Frame::Last(Final::Joins(joint, at, operand)));
@@ -108,7 +124,13 @@ fn shift(alloc: Global, forms: &mut Stack<Frame>, operand: Operand, follow: Foll
 }
 
 /// What the next token leads to, which has this kind and place.
-pub fn step(reader: &Reader, forms: &mut Stack<Frame>, mode: Mode, kind: TokenKind, at: u32) -> Result<Step, NoMemory>
+pub fn step(
+    reader: &Reader,
+    forms: &mut Stack<Frame>,
+    mode: Mode,
+    kind: TokenKind,
+    at: u32,
+) -> Result<Step, NoMemory>
     ensures { IfOk result (λ next. step_of next forms.new ≡ step (state_of mode forms.old) (what_of kind (text_left reader.now)) at) }
 {
     match mode {
@@ -137,7 +159,11 @@ pub fn step(reader: &Reader, forms: &mut Stack<Frame>, mode: Mode, kind: TokenKi
 }
 
 /// The expression at the end of the tokens; none if it isn't whole there.
-pub fn finish(alloc: Global, forms: &mut Stack<Frame>, mode: Mode) -> Result<Option<TExpr>, NoMemory>
+pub fn finish(
+    alloc: Global,
+    forms: &mut Stack<Frame>,
+    mode: Mode,
+) -> Result<Option<TExpr>, NoMemory>
     ensures { IfOk result (λ whole. option_map formula_of whole ≡ tree_of (finish (state_of mode forms.old))) }
 {
     let Mode::Have(operand) = mode else {

@@ -11,7 +11,7 @@ pub returns-then-not-is_near-clause-reads : goal.returns-then-not-is_near-clause
 returns-then-not-is_near-clause-reads c = record {
   place = c.place-then-not-is_near.ensures ∙ ap (λ src. place_or_end (length src) (left_of c.loop-kind.reader)) c.loop-kind.invariant.on.text;
   stops = λ f calm. sym (c.loop-kind.invariant.reads f)
-    ∙ goes_deep (end_of c.loop-kind.reader) c.loop-kind.reader.src.now c.loop-kind.reader.left.now c.in-Some.kind (state_of c.loop-kind.mode c.loop-kind.forms) (state_of c.in-Goes.next c.step.new.forms) f
+      ∙ goes_deep (end_of c.loop-kind.reader) c.loop-kind.reader.src.now c.loop-kind.reader.left.now c.in-Some.kind (state_of c.loop-kind.mode c.loop-kind.forms) (state_of c.in-Goes.next c.step.new.forms) f
       c.in-Some.ensures
       ((rw c.in-Goes.is at c.in_ok-next.ensures) ∙ ap (step (state_of c.loop-kind.mode c.loop-kind.forms) (what_of c.in-Some.kind (text_left c.loop-kind.reader))) c.place.ensures)
       (sym c.is_near.ensures ∙ c.if-not-is_near.true);
