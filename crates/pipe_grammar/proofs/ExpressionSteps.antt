@@ -1,6 +1,6 @@
 -- What the reader of texts makes of tokens where it is in an expression that the first of them makes too
 -- deep.
-use Rattle.std.proofs.Common.{◌≡◌, ℕ, List, [], ◌∷◌, Option, Some, None, false, refl, ap, ◌∙◌}
+use Rattle.std.proofs.Common.{◌≡◌, ℕ, List, [], ◌∷◌, Some, false, refl}
 use Rattle.pipe_lexer.specs.declared.token.Token.{Token}
 use Rattle.pipe_lexer.specs.declared.token.TokenKind.{TokenKind}
 use Rattle.pipe_grammar.specs.Continuations.{Continuation, AnExpression, read_from}

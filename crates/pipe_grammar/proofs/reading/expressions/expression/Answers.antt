@@ -1,4 +1,4 @@
-use Rattle.std.proofs.Common.{◌≡◌, length, ap, sym, ◌∙◌}
+use Rattle.std.proofs.Common.{length, ap, sym, ◌∙◌}
 use Rattle.pipe_grammar.specs.Machine.{step}
 use Rattle.pipe_grammar.specs.MachineCopies.{state_of}
 use Rattle.pipe_grammar.specs.Parsing.{place_or_end}

@@ -1,4 +1,4 @@
-use Rattle.std.proofs.Common.{◌≡◌, [], length}
+use Rattle.std.proofs.Common.{◌≡◌, length}
 use Rattle.pipe_grammar.specs.Continuations.{Continuation, AnExpression, expression, read_from}
 use Rattle.pipe_grammar.specs.MachineCopies.{state_of}
 use Rattle.pipe_grammar.specs.Readers.{GoesOn, left_of}
