@@ -27,3 +27,10 @@ pub mod PrintedTexts
 pub mod TreeTokens
 pub mod Wholes
 pub mod ExpressionSteps
+pub mod SpacedTokens
+pub mod LexedSpellings
+pub mod OtherPlaces
+pub mod OtherStreams
+pub mod PlacelessWords
+pub mod PlacelessBounds
+pub mod ReadBack

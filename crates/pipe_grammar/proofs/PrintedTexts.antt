@@ -1,16 +1,23 @@
 -- How a printed text ends.
-use Rattle.std.proofs.Common.{◌≡◌, ◌-◌, ℕ, List, [], ◌∷◌, ◌++◌, length, take, refl, append_assoc, codes, arith}
+use Rattle.std.proofs.Common.{◌≡◌, ◌-◌, ℕ, List, [], ◌∷◌, ◌++◌, length, take, true, refl, append_assoc, codes, arith}
 use Rattle.std.proofs.lemmas.Grind.{common_steps}
+use Rattle.pipe_lexer.specs.Characters.{is_blank}
 use Rattle.pipe_lexer.specs.declared.symbol.Symbol.TheVariants.{Semicolon}
 use Rattle.pipe_grammar.specs.Tokens.{What, Named, Number, Key, Sym}
 use Rattle.pipe_grammar.specs.Printing.{spelling, gap, run_text, spaced}
 
--- one character stands between two tokens
-gap_is_one : (w : What) → (x : ℕ) × (gap w ≡ x ∷ [])
-gap_is_one (Named text) = (32, refl)
-gap_is_one (Number n) = (32, refl)
-gap_is_one (Key k) = (32, refl)
-gap_is_one (Sym s) = elim s as (λ t. (x : ℕ) × (gap (Sym t) ≡ x ∷ [])) [ Semicolon ↦ (10, refl) | _ ↦ (32, refl) ]
+-- one blank stands between two tokens
+pub record GapIsBlank (w : What) : Type 0 where
+  pub blank : ℕ
+  pub is_blank : is_blank blank ≡ true
+  pub gap_is : gap w ≡ blank ∷ []
+
+pub gap_is_blank : (w : What) → GapIsBlank w
+gap_is_blank (Named text) = record { blank = 32; is_blank = refl; gap_is = refl }
+gap_is_blank (Number n) = record { blank = 32; is_blank = refl; gap_is = refl }
+gap_is_blank (Key k) = record { blank = 32; is_blank = refl; gap_is = refl }
+gap_is_blank (Sym s) =
+    elim s as (λ t. GapIsBlank (Sym t)) [ Semicolon ↦ record { blank = 10; is_blank = refl; gap_is = refl } | _ ↦ record { blank = 32; is_blank = refl; gap_is = refl } ]
 
 -- tokens with their gaps are a text and a last character, and with a line feed in its place they are spaced
 record Ending (ws : List What) : Type 0 where
@@ -21,8 +28,8 @@ record Ending (ws : List What) : Type 0 where
 
 ending : (w : What) (ws : List What) → Ending (w ∷ ws)
 ending w [] =
-    let g = gap_is_one w in
-    record { text = spelling w; last = g.0; run = rw g.1 (simp append_assoc); spaced_is = refl }
+    let g = gap_is_blank w in
+    record { text = spelling w; last = g.blank; run = rw g.gap_is (simp append_assoc); spaced_is = refl }
 ending w (v ∷ ws) =
     let e = ending v ws in
     record { text = spelling w ++ gap w ++ e.text; last = e.last; run = rw e.run (simp append_assoc); spaced_is = rw e.spaced_is (simp append_assoc) }

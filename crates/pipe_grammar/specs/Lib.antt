@@ -16,3 +16,5 @@ pub mod Printing
 pub mod TreeTokens
 pub mod LeadCopies
 pub mod Readers
+pub mod Spellings
+pub mod Placeless

@@ -8,3 +8,4 @@ pub mod OnePiece
 pub mod Passing
 pub mod OneAnswer
 pub mod Places
+pub mod BeforeBlanks

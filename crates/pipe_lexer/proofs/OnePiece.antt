@@ -40,7 +40,7 @@ fails : (b : Bool) → (b ≡ true → ⊥) → b ≡ false
 fails true h = absurd (h refl)
 fails false h = refl
 
-blank_small : (c : ℕ) → is_blank c ≡ true → c < 48
+pub blank_small : (c : ℕ) → is_blank c ≡ true → c < 48
 blank_small c h = grind (arith, nat_tests)
 
 comment_is : (c : ℕ) → begins_comment c ≡ true → c ≡ 35
@@ -52,7 +52,7 @@ digit_between c h = (grind (arith, nat_tests), grind (arith, nat_tests))
 ascii_letter_large : (c : ℕ) → (is_ascii_alphabetic c || (c == 95)) ≡ true → 58 ≤ c
 ascii_letter_large c h = grind (arith, nat_tests)
 
-begins_word-ascii : (c : ℕ) → c < 128 → begins_word c ≡ (is_ascii_alphabetic c || (c == 95))
+pub begins_word-ascii : (c : ℕ) → c < 128 → begins_word c ≡ (is_ascii_alphabetic c || (c == 95))
 begins_word-ascii c h = ap (λ (b : Bool). b || (c == 95)) (is_xid_start-ascii c h)
 
 -- what begins a word is no blank, comment or digit

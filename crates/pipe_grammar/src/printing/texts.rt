@@ -2,6 +2,7 @@
 
 ghost use Rattle.std.specs.Prelude.{◌≡◌, ◌-◌, ◌++◌, ◌∷◌, [], codes, length, map, take, IfOk, OnOk};
 ghost use Rattle.pipe_grammar.specs.Grammar.{kind_key};
+ghost use Rattle.pipe_grammar.specs.Placeless.{IsPrintable, ReadsBack};
 ghost use Rattle.pipe_grammar.specs.Printing.{run_text, terminal_words, declaration_words, declarations_words, tree_words, spaced};
 ghost use Rattle.pipe_grammar.specs.Tokens.{Key};
 ghost use Rattle.pipe_grammar.specs.TreeCopies.{terminal_of, declaration_of, text_of};
@@ -81,10 +82,15 @@ fn put_end(out: &mut Vec<u8>) -> Result<(), NoMemory>
 /// without leading zeros. A blank stands between two tokens, but a line feed behind each `;` and
 /// behind the last token. Places make no difference.
 ///
+/// If some text has `t` as its tree, but for places, then the printed text has it too, within the same
+/// limits: the printed text of a tree that was read reads as the same tree, but for places. It may be
+/// longer than that text was, and than the 65,536 bytes that `tokens` takes.
+///
 /// The one error is `NoMemory`, where the text doesn't fit in memory.
-#[tactic(auto, using(crate::proofs::PrintedTexts::ends_in_feed))]
+#[tactic(auto, using(crate::proofs::PrintedTexts::ends_in_feed, crate::proofs::ReadBack::reads_back))]
 pub fn print_tree(alloc: Global, t: &Tree) -> Result<Vec<u8>, NoMemory>
-    ensures { IfOk result (λ out. out.items ≡ spaced (tree_words (text_of t.now))) }
+    ensures text { IfOk result (λ out. out.items ≡ spaced (tree_words (text_of t.now))) }
+    ensures reads_back { IfOk result (λ out. IsPrintable (text_of t.now) → ReadsBack out.items (text_of t.now)) }
 {
     let mut out = Vec::new(alloc);
     put_tree(&mut out, t)?;
