@@ -1,6 +1,6 @@
 -- A reader of expressions, one token at a time, over the forms that are open around it. What the
 -- expression stands in is not known to it: it answers the tree at the first token that isn't its own.
-use Rattle.std.specs.Prelude.{ℕ, ◌+◌, List, [], ◌∷◌, Bool, true, false, cond, ◌&&◌, nat_lt}
+use Rattle.std.specs.Prelude.{ℕ, ◌+◌, List, [], ◌∷◌, Option, Some, None, Bool, true, false, cond, ◌&&◌, nat_lt}
 use Rattle.pipe_lexer.specs.declared.keyword.Keyword.TheVariants as key
 use Rattle.pipe_lexer.specs.declared.operator.BinOp.TheVariants.{Add, Sub, Mul, Div, Rem, Eq, Ne, Lt, Le, Gt, Ge}
 use Rattle.pipe_lexer.specs.declared.symbol.Symbol.TheVariants as symbol
@@ -202,3 +202,9 @@ abbrev pub IsForeign : Follow → Type 0
 IsForeign (Operator joint) = ⊥
 IsForeign (Marks m) = Unit {0}
 IsForeign Foreign = Unit {0}
+
+-- the tree of a step that leaves
+abbrev pub tree_of : Step → Option Formula
+tree_of (Goes s) = None
+tree_of (Leaves u) = Some u
+tree_of Stuck = None

@@ -1,8 +1,7 @@
 //! One step of the reader of expressions, over one token.
 
 ghost use Rattle.std.specs.Prelude.{◌≡◌, ◌∷◌, ℕ, List, IfOk, cond, option_map};
-ghost use Rattle.pipe_grammar.specs.Expressions.{tree_of};
-ghost use Rattle.pipe_grammar.specs.Machine.{Need, Goes, Stuck, started, start_of, marked, pop, shift, spelled, step, finish};
+ghost use Rattle.pipe_grammar.specs.Machine.{Need, Goes, Stuck, started, start_of, marked, pop, shift, spelled, step, finish, tree_of};
 ghost use Rattle.pipe_grammar.specs.MachineCopies.{frame_of, inner_of, frames_of, state_of, step_of, mark_of, follow_copy};
 ghost use Rattle.pipe_grammar.specs.Machine as machine;
 ghost use Rattle.pipe_grammar.specs.Readers.{text_left};
