@@ -1,0 +1,67 @@
+#!/usr/bin/env bash
+# Prints how long strymonas takes to read pipeline texts: texts of 1, 4, 16 and 64 KiB, an expression
+# 200 deep, streams nested 16 deep, and a text of 65,536 opening parentheses, which is refused.
+# Each line is the least of several runs of `compile`, in milliseconds, and what the run answered. A text
+# that is read whole and not compiled yet is answered `Unbuilt at 0`. The first line is a text of no
+# bytes: what starting the program takes.
+set -eu
+cd "$(dirname "$0")/.."
+program=$PWD/crates/strymonas_cli/out/strymonas_cli
+if [ ! -x "$program" ]; then
+  echo "there is no $program: build it with (cd crates/strymonas_cli && rt build)"
+  exit 1
+fi
+work=$(mktemp -d)
+trap 'rm -rf "$work"' EXIT
+
+# text BYTES: an expression of sums and products, nodes within the limit by long names
+text() {
+  awk -v bytes="$1" 'BEGIN {
+    name = "x"; while (length(name) < 30) name = name "x"
+    printf "range(0, 1) | map %s -> %s", name, name
+    n = 30 + 20 + 30
+    while (n + 33 < bytes - 20) { printf " + %s", name; n += 33 }
+    while (n < bytes - 10) { printf " "; n++ }
+    printf " | print\n"
+  }'
+}
+
+# deep N: parentheses around a number, N - 1 of them
+deep() {
+  awk -v n="$1" 'BEGIN {
+    printf "range(0, "; for (i = 1; i < n; i++) printf "("; printf "1"
+    for (i = 1; i < n; i++) printf ")"; printf ") | print\n"
+  }'
+}
+
+# nested N: streams nested N deep
+nested() {
+  awk -v n="$1" 'BEGIN {
+    for (i = 1; i < n; i++) printf "array a | flatMap x -> ("
+    printf "array a"; for (i = 1; i < n; i++) printf ")"; printf " | print\n"
+  }'
+}
+
+: >"$work/empty"
+for kib in 1 4 16 64; do text $((kib * 1024)) >"$work/$kib-KiB"; done
+deep 200 >"$work/200-deep"
+{ echo 'input a: array;'; nested 16; } >"$work/16-nested"
+awk 'BEGIN { for (i = 0; i < 65536; i++) printf "(" }' >"$work/65536-parentheses"
+
+# least FILE: the least time of 9 runs, in milliseconds
+least() {
+  best=
+  for _ in 1 2 3 4 5 6 7 8 9; do
+    from=$(date +%s%N)
+    "$program" compile "$1" >"$work/out" 2>"$work/err" || true
+    spent=$(($(date +%s%N) - from))
+    if [ -z "$best" ] || [ "$spent" -lt "$best" ]; then best=$spent; fi
+  done
+  awk -v ns="$best" 'BEGIN { printf "%.2f", ns / 1000000 }'
+}
+
+printf '%-18s %8s %10s  %s\n' text bytes ms answer
+for name in empty 1-KiB 4-KiB 16-KiB 64-KiB 200-deep 16-nested 65536-parentheses; do
+  ms=$(least "$work/$name")
+  printf '%-18s %8s %10s  %s\n' "$name" "$(wc -c <"$work/$name")" "$ms" "$(cat "$work/err")"
+done
