@@ -8,16 +8,8 @@ pub mod Appends
 pub mod Compiled
 pub mod CountsToTwo
 pub mod PrintedText
-pub mod Runs
-pub mod Blanks
-pub mod Digits
-pub mod FirstTokens
-pub mod Lexed
 pub mod ReportLemmas
+pub mod FirstForms
 pub mod Readings
 pub mod Comings
-mod Formulas
-pub mod Sums
-pub mod Operations
-pub mod Stages
 pub mod Squares

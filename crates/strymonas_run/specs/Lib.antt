@@ -1,9 +1,6 @@
-pub mod Characters
-pub mod Tokens
-pub mod Trees
-pub mod Grammar
-pub mod Typing
+pub mod FirstForm
 pub mod PipelineFile
+pub mod Refusals
 pub mod Statements
 pub mod StatementCopies
 pub mod DeclaredNames
@@ -12,13 +9,7 @@ pub mod Meaning
 pub mod Layout
 pub mod Emission
 pub mod Headline
-pub mod Symbols
-pub mod Lexing
 pub mod Commands
 pub mod Statuses
 pub mod Compiling
-pub mod Keywords
-pub mod Fronts
-pub mod Sums
-pub mod Stages
 pub mod Reading

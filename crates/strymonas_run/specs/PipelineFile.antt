@@ -1,17 +1,20 @@
 -- The pipeline that a file's bytes are.
-use Rattle.std.specs.Prelude.{ℕ, ◌≤◌, List, length}
+use Rattle.std.specs.Prelude.{◌≡◌, ℕ, ◌≤◌, List, length, Some}
+use Rattle.pipe_lexer.specs.declared.token.Token.{Token}
+use Rattle.pipe_lexer.specs.Lexing.{IsLexed}
+use Rattle.pipe_grammar.specs.Trees.{Text}
+use Rattle.pipe_grammar.specs.Tokens.{toks_of}
+use Rattle.pipe_grammar.specs.Grammar.{IsSentence}
+use Rattle.pipe_grammar.specs.Bounds.{IsBounded}
 use Rattle.list_denotation.specs.Terms.{Pipeline}
-use Rattle.strymonas_run.specs.declared.token.Token.{Token}
-use Rattle.strymonas_run.specs.Tokens.{IsLexed}
-use Rattle.strymonas_run.specs.Trees.{Tree}
-use Rattle.strymonas_run.specs.Grammar.{IsSentence}
-use Rattle.strymonas_run.specs.Typing.{IsTyped}
+use Rattle.strymonas_run.specs.FirstForm.{pipeline_for}
 
--- the bytes are a text of the first form, which stands for this pipeline
+-- the bytes are a text within the limits, whose tree is in the first form and stands for this pipeline
 pub record IsPipelineFile (src : List ℕ) (p : Pipeline) : Type 0 where
   pub within : length src ≤ 65536
   pub toks : List Token
-  pub tree : Tree
+  pub tree : Text
   pub lexed : IsLexed src toks
-  pub sentence : IsSentence toks tree
-  pub typed : IsTyped tree p
+  pub sentence : IsSentence (toks_of src toks) tree
+  pub bounded : IsBounded tree
+  pub stands_for : pipeline_for tree ≡ Some p

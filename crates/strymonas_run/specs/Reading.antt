@@ -1,14 +1,42 @@
--- What reading the tokens of a text gives.
-use Rattle.std.specs.Prelude.{List, Option, Some, None}
+-- What the steps of reading a file's bytes give.
+use Rattle.std.specs.Prelude.{ℕ, List, Result, Ok, Err}
+use Rattle.pipe_lexer.specs.declared.fault.LexFault.{LexFault}
+use Rattle.pipe_lexer.specs.declared.fault.LexFault.TheVariants as lex
+use Rattle.pipe_grammar.specs.declared.fault.ParseFault.{ParseFault}
+use Rattle.pipe_grammar.specs.declared.fault.ParseFault.TheVariants as parse
 use Rattle.list_denotation.specs.declared.program.Program.{Program}
-use Rattle.list_denotation.specs.Terms.{Pipeline}
 use Rattle.list_denotation.specs.Pipelines.{pipeline_of}
-use Rattle.strymonas_run.specs.declared.token.Token.{Token}
-use Rattle.strymonas_run.specs.Trees.{Tree}
-use Rattle.strymonas_run.specs.Grammar.{IsSentence}
-use Rattle.strymonas_run.specs.Typing.{IsTyped}
+use Rattle.strymonas_run.specs.declared.refusal.RefusalKind.{RefusalKind}
+use Rattle.strymonas_run.specs.declared.refusal.RefusalKind.TheVariants.{NotUtf8, BadChar, NumberTooLarge, Syntax, TooDeep, TooManyInputs, TooManyOps, TooManyNodes}
+use Rattle.strymonas_run.specs.declared.refusal.TextFault.{TextFault}
+use Rattle.strymonas_run.specs.declared.refusal.TextFault.TheVariants.{Refused, NoMemory}
+use Rattle.strymonas_run.specs.Refusals.{IsReading}
 
--- what reading the tokens gives: the program of their tree, or none where no tree of theirs is typed
-abbrev pub ReadAs : List Token → Option Program → Type 0
-ReadAs toks None = (tree : Tree) (p : Pipeline) → IsSentence toks tree → IsTyped tree p → ⊥
-ReadAs toks (Some program) = (tree : Tree) × (IsSentence toks tree × IsTyped tree (pipeline_of program))
+abbrev pub refused : RefusalKind → ℕ → TextFault
+refused kind at = Refused (record { kind = kind; at = at })
+
+-- the fault of a text whose tokens have this one
+abbrev pub of_tokens : LexFault → TextFault
+of_tokens (lex.NotUtf8 at) = refused NotUtf8 at
+of_tokens (lex.BadChar at) = refused BadChar at
+of_tokens (lex.NumberTooLarge at) = refused NumberTooLarge at
+of_tokens lex.NoMemory = NoMemory
+
+-- the fault of a text whose tree has this one
+abbrev pub of_tree : ParseFault → TextFault
+of_tree (parse.Syntax at) = refused Syntax at
+of_tree (parse.TooDeep at) = refused TooDeep at
+of_tree (parse.TooManyInputs at) = refused TooManyInputs at
+of_tree (parse.TooManyOps at) = refused TooManyOps at
+of_tree (parse.TooManyNodes at) = refused TooManyNodes at
+of_tree parse.NoMemory = NoMemory
+
+-- the bytes are refused for this reason and no other, or memory was refused
+abbrev pub FailsAs : List ℕ → TextFault → Type 0
+FailsAs src (Refused r) = IsReading src (Err r)
+FailsAs src NoMemory = Unit {0}
+
+-- what reading the bytes gives
+abbrev pub IsRead : List ℕ → Result Program TextFault → Type 0
+IsRead src (Ok program) = IsReading src (Ok (pipeline_of program))
+IsRead src (Err fault) = FailsAs src fault

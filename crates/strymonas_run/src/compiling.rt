@@ -1,17 +1,17 @@
-ghost use Rattle.std.specs.Prelude.{◌≡◌, ◌≤◌, length, IfOk, MatchOption};
-ghost use Rattle.list_denotation.specs.Pipelines.{pipeline_of};
-ghost use Rattle.strymonas_run.specs.PipelineFile.{IsPipelineFile};
-ghost use Rattle.strymonas_run.specs.Compiling.{AnswersCompile, HasCause, IsTextOf, IsUnbuilt, WritesSource};
+ghost use Rattle.std.specs.Prelude.{◌≡◌, ◌≤◌, length};
+ghost use Rattle.strymonas_run.specs.Reading.{IsRead};
+ghost use Rattle.strymonas_run.specs.Compiling.{AnswersCompile, HasCause, MakesText, WritesSource};
 
 use crate::c_printer::print_c;
 use crate::first_form::read_program;
-use crate::lexing::tokens;
 use crate::loop_emit::emit;
+use crate::refusal::{RefusalKind, TextFault};
 use crate::statuses::Status;
 use list_denotation::Program;
+use pipe_grammar::parse;
+use pipe_lexer::tokens;
 use std::alloc::Global;
 use strm_io::{Files, LoadFault, Sink, load, put_all};
-use strm_num::NoMemory;
 
 /// The most bytes of a pipeline text.
 const MOST_BYTES: u64 = 65_536;
@@ -42,36 +42,35 @@ fn compile_text<O: Sink>(alloc: Global, src: &[u8], out: &mut O) -> Status
     ensures answers { WritesSource src.now (O.written out.old) (O.written out.new) (O.faults out.old) (O.faults out.new) result }
 {
     match c_text(alloc, src) {
-        Ok(Some(text)) => match put_all(out, text.as_slice()) {
+        Ok(text) => match put_all(out, text.as_slice()) {
             Ok(()) => Status::Done,
             Err(_) => Status::WriteFault,
         },
-        Ok(None) => Status::Refused,
-        Err(NoMemory) => Status::NoMemory,
+        Err(TextFault::Refused(refusal)) => Status::Refused(refusal),
+        Err(TextFault::NoMemory) => Status::NoMemory,
     }
 }
 
-// The C text of a pipeline text, and none where it is no pipeline that is built.
-fn c_text(alloc: Global, src: &[u8]) -> Result<Option<Vec<u8>>, NoMemory>
+// The C text of a pipeline text, or why there is none.
+fn c_text(alloc: Global, src: &[u8]) -> Result<Vec<u8>, TextFault>
     requires { length src.now ≤ 65536 }
-    ensures { IfOk result (λ text. MatchOption text (IsUnbuilt src.now) (λ c. IsTextOf src.now c.items)) }
+    ensures { MakesText src.now result }
 {
-    let Some(program) = read_pipeline(alloc, src)? else {
-        return Ok(None);
-    };
+    let program = read_pipeline(alloc, src)?;
     let routine = emit(alloc, &program)?;
     let text = print_c(alloc, &routine)?;
-    Ok(Some(text))
+    Ok(text)
 }
 
-// The pipeline of a text, and none where it is none that is built.
-#[tactic(auto, using(crate::proofs::Readings::unlexed))]
-fn read_pipeline(alloc: Global, src: &[u8]) -> Result<Option<Program>, NoMemory>
+// The pipeline of a text, or why there is none.
+fn read_pipeline(alloc: Global, src: &[u8]) -> Result<Program, TextFault>
     requires { length src.now ≤ 65536 }
-    ensures { IfOk result (λ found. MatchOption found (IsUnbuilt src.now) (λ p. IsPipelineFile src.now (pipeline_of p))) }
+    ensures { IsRead src.now result }
 {
-    let Some(toks) = tokens(alloc, src)? else {
-        return Ok(None);
-    };
-    read_program(alloc, toks.as_slice())
+    let toks = tokens(alloc, src)?;
+    let tree = parse(alloc, src, toks.as_slice())?;
+    match read_program(alloc, &tree)? {
+        Some(program) => Ok(program),
+        None => Err(TextFault::refused(RefusalKind::Unbuilt, 0)),
+    }
 }

@@ -1,33 +1,37 @@
-ghost use Rattle.std.specs.Prelude.{◌≡◌, ◌↔◌, ℕ, List, [], ◌∷◌, ◌++◌, IsTrue, IfOk, MatchOption, option_map};
-ghost use Rattle.list_denotation.specs.Terms.{Array, Bin, Map, Print};
+//! The first form of the language, read from trees.
+
+ghost use Rattle.std.specs.Prelude.{◌≡◌, ◌≤◌, [], ◌∷◌, IsTrue, IfOk, MatchOption, map, option_map};
+ghost use Rattle.pipe_grammar.specs.Bounds.{IsBounded, depth_of, row_depth, stages_depth, stream_depth};
+ghost use Rattle.pipe_grammar.specs.Trees.{Cons, Nil};
+ghost use Rattle.pipe_grammar.specs.TreeCopies.{declaration_of, formula_of, label_of, stage_of, stages_of, stream_of, terminal_of, text_of};
+ghost use Rattle.list_denotation.specs.Terms.{Array, Map, Print};
 ghost use Rattle.list_denotation.specs.Copies.{pipe_of, term_of};
 ghost use Rattle.list_denotation.specs.Pipelines.{pipeline_of};
 ghost use Rattle.list_denotation.specs.Typing.{is_typed};
-ghost use Rattle.strymonas_run.specs.Grammar.{IsName, is_among, keywords};
-ghost use Rattle.strymonas_run.specs.Keywords.{closing_words, shorthand_words, source_words, stage_words};
-ghost use Rattle.strymonas_run.specs.Fronts.{LacksDeclaration, LacksFront, LacksMap, LacksName, LacksPrint, LacksSource, declaration_tokens, map_tokens, print_tokens, source_tokens};
-ghost use Rattle.strymonas_run.specs.Sums.{operand_at, operator_at, sum_from, sum_in, term_times, term_with};
-ghost use Rattle.strymonas_run.specs.Stages.{BodyReadAs, LacksText, StageReadAs, text_tokens};
-ghost use Rattle.strymonas_run.specs.Reading.{ReadAs};
+ghost use Rattle.strymonas_run.specs.FirstForm.{built_operator, mapped, only_array, operation, pipe_for, pipeline_for, stage_for, stages_for, term_for, unbraced};
 
-use crate::token::{Symbol, Text, Token};
 use list_denotation::{BinOp, Expr, Exprs, InputKind, InputKinds, Program, Stream, Terminal};
+use pipe_grammar::{
+    Decl, Name, TExpr, TNode, TPat, TRow, TSource, TStage, TStageNode, TStream, TTerminal, Tree,
+};
 use std::alloc::Global;
 use strm_num::NoMemory;
 
-/// The most tokens of an expression: 16 operators and their 17 operands.
-const MOST_TOKENS: usize = 33;
-
-/// The program of a sentence of the first form, or none where the tokens are no sentence of it, or
-/// one that is not typed: whose source is not the declared array, or whose map names something
-/// other than its bound word. `NoMemory` comes where memory is refused, and for nothing else.
-pub fn read_program(alloc: Global, toks: &[Token]) -> Result<Option<Program>, NoMemory>
-    ensures { IfOk result (λ found. ReadAs toks.now found) }
+/// The program that a tree of the first form stands for, or none where the tree isn't in it.
+///
+/// The one error is `NoMemory`, where memory is refused.
+#[tactic(auto, using(crate::proofs::FirstForms::stream_within))]
+pub fn read_program(alloc: Global, tree: &Tree) -> Result<Option<Program>, NoMemory>
+    requires { IsBounded (text_of tree.now) }
+    ensures { IfOk result (λ found. option_map pipeline_of found ≡ pipeline_for (text_of tree.now)) }
 {
-    let Some(stage) = stage_part(toks) else {
+    let Some(name) = only_array(tree.inputs.as_slice()) else {
         return Ok(None);
     };
-    match read_stage(alloc, stage)? {
+    if !matches!(tree.terminal, TTerminal::Print) {
+        return Ok(None);
+    }
+    match read_stream(alloc, &tree.stream, name)? {
         Some(stream) => Ok(Some(printed(alloc, stream)?)),
         None => Ok(None),
     }
@@ -49,31 +53,77 @@ fn printed(alloc: Global, stream: Stream) -> Result<Program, NoMemory>
     })
 }
 
-/// What stands between source and terminal.
-fn stage_part(toks: &[Token]) -> Option<&[Token]>
-    ensures { MatchOption result (LacksText toks.now)
-        (λ stage. (x : List ℕ) × (IsName x × (toks.now ≡ text_tokens x stage.now))) }
+/// The name of the only input, where that is an array.
+fn only_array(inputs: &[Decl]) -> Option<&[u8]>
+    ensures { let name = only_array (map declaration_of inputs.now) in
+        MatchOption result (name ≡ None) (λ found. name ≡ Some found.now) }
 {
-    let Some((name, rest)) = after_declaration(toks) else {
-        return None;
-    };
-    let Some(rest) = after_source(rest, name.as_slice()) else {
-        return None;
-    };
-    before_print(rest)
+    match inputs {
+        [only] if only.kind == pipe_lexer::InputKind::Array => Some(only.name.text.as_slice()),
+        _ => None,
+    }
 }
 
-/// The stream of the tokens between source and terminal, or none where they are no stage.
-fn read_stage(alloc: Global, toks: &[Token]) -> Result<Option<Stream>, NoMemory>
-    ensures { IfOk result (λ found. StageReadAs toks.now found) }
+/// The stream of the array that is declared under this name, or none where it isn't of the form.
+fn read_stream(alloc: Global, s: &TStream, name: &[u8]) -> Result<Option<Stream>, NoMemory>
+    requires { stream_depth (stream_of s.now) ≤ 200 }
+    ensures { IfOk result (λ found. option_map pipe_of found ≡ pipe_for name.now (stream_of s.now)) }
 {
-    if toks.is_empty() {
-        return Ok(Some(Stream::Array(0)));
+    match &s.source {
+        TSource::Array(source) => {
+            if source.text.as_slice() == name {
+                read_stages(alloc, s.stages.as_slice())
+            } else {
+                Ok(None)
+            }
+        }
+        TSource::Range(..) | TSource::Unfold { .. } | TSource::Zip(..) => Ok(None),
     }
-    let Some((name, body)) = after_arrow(toks) else {
+}
+
+/// The declared array with no stage or one.
+#[tactic(auto, using(crate::proofs::FirstForms::many_stages))]
+fn read_stages(alloc: Global, stages: &[TStage]) -> Result<Option<Stream>, NoMemory>
+    requires { stages_depth (stages_of stages.now) ≤ 200 }
+    ensures { IfOk result (λ found. option_map pipe_of found ≡ stages_for (stages_of stages.now)) }
+{
+    match stages {
+        [] => Ok(Some(Stream::Array(0))),
+        [only] => read_stage(alloc, only),
+        [_, _, ..] => Ok(None),
+    }
+}
+
+/// The declared array with this stage.
+fn read_stage(alloc: Global, stage: &TStage) -> Result<Option<Stream>, NoMemory>
+    requires { stages_depth (Cons (stage_of stage.now) Nil) ≤ 200 }
+    ensures { IfOk result (λ found. option_map pipe_of found ≡ stage_for (stage_of stage.now)) }
+{
+    match &stage.node {
+        TStageNode::Map(pat, row) => read_map(alloc, pat, row),
+        TStageNode::Filter(..)
+        | TStageNode::Take(_)
+        | TStageNode::Drop(_)
+        | TStageNode::TakeWhile(..)
+        | TStageNode::Scan { .. }
+        | TStageNode::FlatMap(..) => Ok(None),
+    }
+}
+
+/// The declared array, each item of which becomes this row under the pattern's name.
+fn read_map(alloc: Global, pat: &TPat, row: &TRow) -> Result<Option<Stream>, NoMemory>
+    requires { row_depth (map formula_of row.now.parts) ≤ 200 }
+    ensures { let name = unbraced pat.now.braces (map label_of pat.now.names) in
+        let body = unbraced row.now.braces (map formula_of row.now.parts) in
+        IfOk result (λ found. option_map pipe_of found ≡ mapped name body) }
+{
+    let Some(name) = only_name(pat) else {
         return Ok(None);
     };
-    match read_body(alloc, body, name.as_slice())? {
+    let Some(body) = only_part(row) else {
+        return Ok(None);
+    };
+    match read_expression(alloc, body, name.text.as_slice())? {
         Some(body) => Ok(Some(mapped(alloc, body)?)),
         None => Ok(None),
     }
@@ -88,261 +138,75 @@ fn mapped(alloc: Global, body: Expr) -> Result<Stream, NoMemory>
     Ok(Stream::Map(Box::new(alloc, Stream::Array(0))?, row))
 }
 
-/// The row of a map over this name, or none where the tokens are none.
-fn read_body(alloc: Global, toks: &[Token], name: &[u8]) -> Result<Option<Expr>, NoMemory>
-    requires { IsName name.now }
-    ensures { IfOk result (λ found. BodyReadAs name.now toks.now found) }
+/// The name of a pattern without braces.
+fn only_name(pat: &TPat) -> Option<&Name>
+    ensures { let name = unbraced pat.now.braces (map label_of pat.now.names) in
+        MatchOption result (name ≡ None) (λ found. name ≡ Some (label_of found.now)) }
 {
-    if toks.len() > MOST_TOKENS {
-        return Ok(None);
-    }
-    read_sum(alloc, toks, name)
-}
-
-/// The expression of the tokens, or none where they are none.
-fn read_sum(alloc: Global, toks: &[Token], name: &[u8]) -> Result<Option<Expr>, NoMemory>
-    ensures { IfOk result (λ found. option_map term_of found ≡ sum_in name.now toks.now) }
-{
-    let [front, rest @ ..] = toks else {
-        return Ok(None);
-    };
-    match operand_of(front, name) {
-        Some(first) => read_operations(alloc, first, rest, name),
-        None => Ok(None),
+    match pat.names.as_slice() {
+        [only] if !pat.braces => Some(only),
+        _ => None,
     }
 }
 
-/// The first operand with the operations that follow it, or none where the tokens are none.
-fn read_operations(
+/// The expression of a row without braces.
+fn only_part(row: &TRow) -> Option<&TExpr>
+    ensures { let part = unbraced row.now.braces (map formula_of row.now.parts) in
+        MatchOption result (part ≡ None) (λ found. part ≡ Some (formula_of found.now)) }
+{
+    match row.parts.as_slice() {
+        [only] if !row.braces => Some(only),
+        _ => None,
+    }
+}
+
+/// The expression over this bound name, or none where it isn't of the form. Its parts are read one
+/// inside the other, at most 200 deep.
+fn read_expression(alloc: Global, e: &TExpr, name: &[u8]) -> Result<Option<Expr>, NoMemory>
+    requires { depth_of (formula_of e.now) ≤ 200 }
+    ensures { IfOk result (λ found. option_map term_of found ≡ term_for name.now (formula_of e.now)) }
+{
+    match &e.node {
+        TNode::Num(n) => Ok(Some(Expr::Lit(*n))),
+        TNode::Name(text) if text.as_slice() == name => Ok(Some(Expr::Var(0))),
+        TNode::Paren(inner) => read_expression(alloc, inner, name),
+        TNode::Bin(op, _, left, right) => {
+            let left = read_expression(alloc, left, name)?;
+            let right = read_expression(alloc, right, name)?;
+            operation(alloc, built_operator(*op), left, right)
+        }
+        _ => Ok(None),
+    }
+}
+
+/// The operation, where its operator and both its operands are of the form.
+fn operation(
     alloc: Global,
-    first: Expr,
-    toks: &[Token],
-    name: &[u8],
+    op: Option<BinOp>,
+    left: Option<Expr>,
+    right: Option<Expr>,
 ) -> Result<Option<Expr>, NoMemory>
-    ensures { IfOk result
-        (λ found. option_map term_of found ≡ sum_from name.now (term_of first) toks.now) }
+    ensures { let terms = operation op (option_map term_of left) (option_map term_of right) in
+        IfOk result (λ found. option_map term_of found ≡ terms) }
 {
-    let mut sum = first;
-    let mut rest = toks;
-    while let [sign, next, after @ ..] = rest {
-        let (Some(op), Some(operand)) = (operator_of(sign), operand_of(next, name)) else {
-            return Ok(None);
-        };
-        sum = extended(alloc, op, sum, operand)?;
-        rest = after;
-    }
-    if rest.is_empty() {
-        Ok(Some(sum))
-    } else {
-        Ok(None)
+    match (op, left, right) {
+        (Some(op), Some(left), Some(right)) => Ok(Some(Expr::Bin(
+            op,
+            Box::new(alloc, left)?,
+            Box::new(alloc, right)?,
+        ))),
+        _ => Ok(None),
     }
 }
 
-/// The sum with one operation more.
-fn extended(alloc: Global, op: BinOp, sum: Expr, operand: Expr) -> Result<Expr, NoMemory>
-    ensures { IfOk result (λ e. term_of e ≡ term_with op (term_of sum) (term_of operand)) }
+/// The operator, where it is one of the form.
+fn built_operator(op: pipe_lexer::BinOp) -> Option<BinOp>
+    ensures { result ≡ built_operator op }
 {
     match op {
-        BinOp::Mul => multiplied(alloc, sum, operand),
-        BinOp::Add | BinOp::Sub => joined(alloc, op, sum, operand),
-    }
-}
-
-/// The sum whose last product is multiplied by the operand.
-fn multiplied(alloc: Global, sum: Expr, operand: Expr) -> Result<Expr, NoMemory>
-    ensures { IfOk result (λ e. term_of e ≡ term_times (term_of sum) (term_of operand)) }
-{
-    match sum {
-        Expr::Bin(BinOp::Add, left, last) => {
-            let product = joined(alloc, BinOp::Mul, Box::into_inner(last), operand)?;
-            Ok(Expr::Bin(BinOp::Add, left, Box::new(alloc, product)?))
-        }
-        Expr::Bin(BinOp::Sub, left, last) => {
-            let product = joined(alloc, BinOp::Mul, Box::into_inner(last), operand)?;
-            Ok(Expr::Bin(BinOp::Sub, left, Box::new(alloc, product)?))
-        }
-        product => joined(alloc, BinOp::Mul, product, operand),
-    }
-}
-
-/// The operation on two expressions.
-fn joined(alloc: Global, op: BinOp, left: Expr, right: Expr) -> Result<Expr, NoMemory>
-    ensures { IfOk result (λ e. term_of e ≡ Bin op (term_of left) (term_of right)) }
-{
-    Ok(Expr::Bin(op, Box::new(alloc, left)?, Box::new(alloc, right)?))
-}
-
-/// The operator that the token is.
-fn operator_of(token: &Token) -> Option<BinOp>
-    ensures { result ≡ operator_at token.now }
-{
-    match token {
-        Token::Symbol(Symbol::Plus) => Some(BinOp::Add),
-        Token::Symbol(Symbol::Minus) => Some(BinOp::Sub),
-        Token::Symbol(Symbol::Times) => Some(BinOp::Mul),
+        pipe_lexer::BinOp::Add => Some(BinOp::Add),
+        pipe_lexer::BinOp::Sub => Some(BinOp::Sub),
+        pipe_lexer::BinOp::Mul => Some(BinOp::Mul),
         _ => None,
     }
-}
-
-/// The operand that the token is: a number, or the bound name.
-fn operand_of(token: &Token, name: &[u8]) -> Option<Expr>
-    ensures { option_map term_of result ≡ operand_at name.now token.now }
-{
-    match token {
-        Token::Number(n) => Some(Expr::Lit(*n)),
-        Token::Word(text) if text.as_slice() == name => Some(Expr::Var(0)),
-        _ => None,
-    }
-}
-
-/// The declared name of a text, and what follows its declaration `input NAME : array ;`.
-fn after_declaration(toks: &[Token]) -> Option<(&Text, &[Token])>
-    ensures { MatchOption result (LacksDeclaration toks.now)
-        (λ r. IsName r.0.now × (toks.now ≡ declaration_tokens r.0.now r.1.now)) }
-{
-    let toks = after_word(toks, b"input")?;
-    let Some((name, toks)) = after_name(toks) else {
-        return None;
-    };
-    let toks = after_symbol(toks, Symbol::Colon)?;
-    let toks = after_word(toks, b"array")?;
-    let toks = after_symbol(toks, Symbol::Semicolon)?;
-    Some((name, toks))
-}
-
-/// What follows the source `array NAME` of this name.
-fn after_source<'a>(toks: &'a [Token], name: &[u8]) -> Option<&'a [Token]>
-    ensures { MatchOption result (LacksSource name.now toks.now)
-        (λ rest. toks.now ≡ source_tokens name.now rest.now) }
-{
-    let toks = after_word(toks, b"array")?;
-    after_word(toks, name)
-}
-
-/// The bound name of a map `| map NAME -> ..`, and what follows its arrow.
-fn after_arrow(toks: &[Token]) -> Option<(&Text, &[Token])>
-    ensures { MatchOption result (LacksMap toks.now)
-        (λ r. IsName r.0.now × (toks.now ≡ map_tokens r.0.now r.1.now)) }
-{
-    let toks = after_symbol(toks, Symbol::Bar)?;
-    let toks = after_word(toks, b"map")?;
-    let Some((name, toks)) = after_name(toks) else {
-        return None;
-    };
-    let toks = after_symbol(toks, Symbol::Arrow)?;
-    Some((name, toks))
-}
-
-/// What stands before `| print`, which ends each text.
-fn before_print(toks: &[Token]) -> Option<&[Token]>
-    ensures { MatchOption result (LacksPrint toks.now) (λ front. toks.now ≡ front.now ++ print_tokens) }
-{
-    let [front @ .., bar, print] = toks else {
-        return None;
-    };
-    if is_symbol(bar, Symbol::Bar) && is_word(print, b"print") {
-        Some(front)
-    } else {
-        None
-    }
-}
-
-/// What follows this word at the front.
-fn after_word<'a>(toks: &'a [Token], word: &[u8]) -> Option<&'a [Token]>
-    ensures { let front = Token.Word word.now in
-        MatchOption result (LacksFront front toks.now) (λ rest. toks.now ≡ front ∷ rest.now) }
-{
-    match toks {
-        [front, rest @ ..] if is_word(front, word) => Some(rest),
-        _ => None,
-    }
-}
-
-/// What follows this symbol at the front.
-fn after_symbol(toks: &[Token], symbol: Symbol) -> Option<&[Token]>
-    ensures { let front = Token.Symbol symbol in
-        MatchOption result (LacksFront front toks.now) (λ rest. toks.now ≡ front ∷ rest.now) }
-{
-    match toks {
-        [front, rest @ ..] if is_symbol(front, symbol) => Some(rest),
-        _ => None,
-    }
-}
-
-/// The name at the front, and what follows it.
-fn after_name(toks: &[Token]) -> Option<(&Text, &[Token])>
-    ensures { MatchOption result (LacksName toks.now)
-        (λ r. IsName r.0.now × (toks.now ≡ Token.Word r.0.now ∷ r.1.now)) }
-{
-    match toks {
-        [Token::Word(text), rest @ ..] if !is_keyword(text.as_slice()) => Some((text, rest)),
-        _ => None,
-    }
-}
-
-/// Whether the token is this word.
-fn is_word(token: &Token, word: &[u8]) -> bool
-    ensures { IsTrue result ↔ (token.now ≡ Token.Word word.now) }
-{
-    match token {
-        Token::Word(text) => text.as_slice() == word,
-        _ => false,
-    }
-}
-
-/// Whether the token is this symbol.
-fn is_symbol(token: &Token, symbol: Symbol) -> bool
-    ensures { IsTrue result ↔ (token.now ≡ Token.Symbol symbol) }
-{
-    match token {
-        Token::Symbol(found) => *found == symbol,
-        _ => false,
-    }
-}
-
-/// Whether the word is a keyword or reserved, and so no name.
-fn is_keyword(word: &[u8]) -> bool
-    ensures { result ≡ is_among keywords word.now }
-{
-    is_source_word(word) || is_stage_word(word) || is_closing_word(word) || is_shorthand_word(word)
-}
-
-/// Whether the word is one of those of inputs and sources.
-fn is_source_word(word: &[u8]) -> bool
-    ensures { result ≡ is_among source_words word.now }
-{
-    matches!(
-        word,
-        b"input" | b"array" | b"int" | b"range" | b"unfold" | b"with" | b"while" | b"yield"
-    )
-}
-
-/// Whether the word is one of those of stages.
-fn is_stage_word(word: &[u8]) -> bool
-    ensures { result ≡ is_among stage_words word.now }
-{
-    matches!(
-        word,
-        b"next" | b"zip" | b"map" | b"filter" | b"take" | b"drop" | b"takeWhile" | b"scan"
-    )
-}
-
-/// Whether the word is one of those of last stages, terminals and expressions.
-fn is_closing_word(word: &[u8]) -> bool
-    ensures { result ≡ is_among closing_words word.now }
-{
-    matches!(
-        word,
-        b"flatMap" | b"fold" | b"print" | b"if" | b"then" | b"else" | b"true" | b"false"
-    )
-}
-
-/// Whether the word is one of those of lengths and of stages that stand for others.
-fn is_shorthand_word(word: &[u8]) -> bool
-    ensures { result ≡ is_among shorthand_words word.now }
-{
-    matches!(
-        word,
-        b"len" | b"window" | b"pairwise" | b"index" | b"sum" | b"count" | b"least" | b"greatest"
-    )
 }

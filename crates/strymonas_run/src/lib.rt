@@ -11,16 +11,16 @@ pub mod c_printer;
 mod commands;
 mod compiling;
 mod first_form;
-mod lexing;
 mod loop_emit;
 pub mod loop_ir;
+mod refusal;
 mod reporting;
 mod running;
 mod statuses;
 #[cfg(test)]
 mod tests;
-mod token;
 
 pub use commands::{Job, read_words};
+pub use refusal::{Refusal, RefusalKind};
 pub use running::run_words;
 pub use statuses::Status;

@@ -1,8 +1,10 @@
 ghost use Rattle.std.specs.Prelude.{◌≡◌, ◌≤◌, [], ◌++◌, codes};
 ghost use Rattle.strm_io.specs.Appending.{PutsAll, WriteHasCause};
-ghost use Rattle.strymonas_run.specs.Statuses.{line_of, Reports};
+ghost use Rattle.strymonas_run.specs.Statuses.{line_of, refusal_text, Reports};
 
+use crate::refusal::Refusal;
 use crate::statuses::Status;
+use itoa::Buffer;
 use strm_io::{Sink, WriteFault, put_all};
 
 /// Writes the line of a status, in which the file is named `name`, and nothing for `Done`. It
@@ -12,7 +14,7 @@ pub fn report<E: Sink>(status: Status, name: &str, err: &mut E)
     ensures line { Reports (E.written err.old) (E.written err.new) (line_of status name.now) (E.faults err.old) (E.faults err.new) }
     ensures quiet { status ≡ Status.Done → E.written err.new ≡ E.written err.old }
 {
-    if status != Status::Done {
+    if !matches!(status, Status::Done) {
         let _written = put_line(err, status, name);
     }
 }
@@ -25,7 +27,7 @@ fn put_line<E: Sink>(err: &mut E, status: Status, name: &str) -> Result<(), Writ
         Status::Done => put_all(err, b""),
         Status::Words => put_all(err, b"strymonas: words\n"),
         Status::Missing => put_named(err, b"strymonas: missing: ", name),
-        Status::Refused => put_all(err, b"strymonas: refused: Unbuilt at 0\n"),
+        Status::Refused(refusal) => put_refusal(err, refusal),
         Status::ReadFault => put_named(err, b"strymonas: read fault: ", name),
         Status::WriteFault => put_all(err, b"strymonas: write fault\n"),
         Status::NoMemory => put_all(err, b"strymonas: no memory\n"),
@@ -40,6 +42,17 @@ fn put_named<E: Sink>(err: &mut E, front: &[u8], name: &str) -> Result<(), Write
     ensures cause { WriteHasCause (E.faults err.old) (E.faults err.new) result }
 {
     put_both(err, front, name.as_bytes())?;
+    put_all(err, b"\n")
+}
+
+// Writes the line of a refusal.
+#[tactic(auto, using(crate::proofs::ReportLemmas::puts))]
+fn put_refusal<E: Sink>(err: &mut E, refusal: Refusal) -> Result<(), WriteFault>
+    ensures puts { PutsAll (E.written err.old) (E.written err.new) (codes "strymonas: refused: " ++ refusal_text refusal ++ codes "\n") result }
+    ensures cause { WriteHasCause (E.faults err.old) (E.faults err.new) result }
+{
+    put_both(err, b"strymonas: refused: ", refusal.kind.text().as_bytes())?;
+    put_both(err, b" at ", Buffer::new().format(refusal.at).as_bytes())?;
     put_all(err, b"\n")
 }
 

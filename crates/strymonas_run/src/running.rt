@@ -2,7 +2,8 @@ ghost use Rattle.std.specs.Prelude.{◌≡◌, ◌↔◌, None};
 ghost use Rattle.strm_io.specs.Counts.{Rose};
 ghost use Rattle.strymonas_run.specs.Commands.{texts_of, job_of, file_of};
 ghost use Rattle.strymonas_run.specs.Statuses.{line_of, Reports};
-ghost use Rattle.strymonas_run.specs.Compiling.{Answers, HasCause, ComesWhere, IsTooLongFile, IsUnbuiltFile, IsComplete};
+ghost use Rattle.strymonas_run.specs.declared.refusal.Refusal.{Refusal};
+ghost use Rattle.strymonas_run.specs.Compiling.{Answers, HasCause, ComesWhere, IsTooLongFile, IsNoPipeline, IsRefusal, IsRefusedFile, IsComplete};
 
 use crate::commands::{Job, read_words};
 use crate::compiling::compile_file;
@@ -30,11 +31,13 @@ pub fn run_words<F: Files, O: Sink, E: Sink>(
     // When each status comes.
     ensures words { (result ≡ Status.Words) ↔ (job_of (texts_of words.now) ≡ None) }
     ensures missing { ComesWhere (job_of (texts_of words.now)) (F.holds files.old) (file_of (texts_of words.now))
-        (λ file. file ≡ None) Status.Missing result }
+        (λ file. file ≡ None) (λ s. s ≡ Status.Missing) result }
     ensures too_long { ComesWhere (job_of (texts_of words.now)) (F.holds files.old) (file_of (texts_of words.now))
-        IsTooLongFile Status.TooLong result }
+        IsTooLongFile (λ s. s ≡ Status.TooLong) result }
     ensures refused { ComesWhere (job_of (texts_of words.now)) (F.holds files.old) (file_of (texts_of words.now))
-        IsUnbuiltFile Status.Refused result }
+        IsNoPipeline IsRefusal result }
+    ensures refusal { (r : Refusal) → ComesWhere (job_of (texts_of words.now)) (F.holds files.old) (file_of (texts_of words.now))
+        (IsRefusedFile r) (λ s. s ≡ Status.Refused r) result }
     ensures complete { IsComplete (job_of (texts_of words.now)) (F.holds files.old) (file_of (texts_of words.now))
         (Rose (F.faults files.old) (F.faults files.new)) (Rose (O.faults out.old) (O.faults out.new)) result }
 

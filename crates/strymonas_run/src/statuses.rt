@@ -1,6 +1,8 @@
 ghost use Rattle.std.specs.Prelude.{◌≡◌};
 ghost use Rattle.strymonas_run.specs.Statuses.{code_of};
 
+use crate::refusal::Refusal;
+
 /// How the program ends.
 #[derive(Clone, Copy, Debug, PartialEq, Eq)]
 pub enum Status {
@@ -10,8 +12,8 @@ pub enum Status {
     Words,
     /// There is no file of this name.
     Missing,
-    /// The file is no pipeline that is built.
-    Refused,
+    /// The file is no pipeline that is compiled, for this reason.
+    Refused(Refusal),
     /// The file wasn't read.
     ReadFault,
     /// The text wasn't written whole.
@@ -31,7 +33,7 @@ impl Status {
             Status::Done => 0,
             Status::Words => 1,
             Status::Missing => 2,
-            Status::Refused => 3,
+            Status::Refused(_) => 3,
             Status::ReadFault => 6,
             Status::WriteFault => 7,
             Status::NoMemory => 8,
