@@ -1,5 +1,7 @@
 ghost use Rattle.std.specs.Prelude.{◌≡◌, ◌≤◌, length};
-ghost use Rattle.strymonas_run.specs.Reading.{IsRead};
+ghost use Rattle.pipe_grammar.specs.Bounds.{IsBounded};
+ghost use Rattle.pipe_grammar.specs.TreeCopies.{text_of};
+ghost use Rattle.strymonas_run.specs.Reading.{IsBuilt, IsRead};
 ghost use Rattle.strymonas_run.specs.Compiling.{AnswersCompile, HasCause, MakesText, WritesSource};
 
 use crate::c_printer::print_c;
@@ -8,7 +10,7 @@ use crate::loop_emit::emit;
 use crate::refusal::{RefusalKind, TextFault};
 use crate::statuses::Status;
 use list_denotation::Program;
-use pipe_grammar::parse;
+use pipe_grammar::{Tree, parse};
 use pipe_lexer::tokens;
 use std::alloc::Global;
 use strm_io::{Files, LoadFault, Sink, load, put_all};
@@ -69,7 +71,15 @@ fn read_pipeline(alloc: Global, src: &[u8]) -> Result<Program, TextFault>
 {
     let toks = tokens(alloc, src)?;
     let tree = parse(alloc, src, toks.as_slice())?;
-    match read_program(alloc, &tree)? {
+    build(alloc, &tree)
+}
+
+// The pipeline of a tree, or why there is none.
+fn build(alloc: Global, tree: &Tree) -> Result<Program, TextFault>
+    requires { IsBounded (text_of tree.now) }
+    ensures { IsBuilt (text_of tree.now) result }
+{
+    match read_program(alloc, tree)? {
         Some(program) => Ok(program),
         None => Err(TextFault::refused(RefusalKind::Unbuilt, 0)),
     }

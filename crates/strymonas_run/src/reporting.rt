@@ -27,7 +27,7 @@ fn put_line<E: Sink>(err: &mut E, status: Status, name: &str) -> Result<(), Writ
         Status::Done => put_all(err, b""),
         Status::Words => put_all(err, b"strymonas: words\n"),
         Status::Missing => put_named(err, b"strymonas: missing: ", name),
-        Status::Refused(refusal) => put_refusal(err, refusal),
+        Status::Refused(refusal) => put_refusal(err, b"strymonas: refused: ", refusal),
         Status::ReadFault => put_named(err, b"strymonas: read fault: ", name),
         Status::WriteFault => put_all(err, b"strymonas: write fault\n"),
         Status::NoMemory => put_all(err, b"strymonas: no memory\n"),
@@ -45,15 +45,25 @@ fn put_named<E: Sink>(err: &mut E, front: &[u8], name: &str) -> Result<(), Write
     put_all(err, b"\n")
 }
 
-// Writes the line of a refusal.
+// Writes a line that ends with a reason.
 #[tactic(auto, using(crate::proofs::ReportLemmas::puts))]
-fn put_refusal<E: Sink>(err: &mut E, refusal: Refusal) -> Result<(), WriteFault>
-    ensures puts { PutsAll (E.written err.old) (E.written err.new) (codes "strymonas: refused: " ++ refusal_text refusal ++ codes "\n") result }
+fn put_refusal<E: Sink>(err: &mut E, front: &[u8], refusal: Refusal) -> Result<(), WriteFault>
+    ensures puts { PutsAll (E.written err.old) (E.written err.new) (front.now ++ refusal_text refusal ++ codes "\n") result }
     ensures cause { WriteHasCause (E.faults err.old) (E.faults err.new) result }
 {
-    put_both(err, b"strymonas: refused: ", refusal.kind.text().as_bytes())?;
-    put_both(err, b" at ", Buffer::new().format(refusal.at).as_bytes())?;
+    put_reason(err, front, refusal)?;
     put_all(err, b"\n")
+}
+
+// Writes a text and a reason after it.
+#[tactic(auto, using(crate::proofs::ReportLemmas::puts))]
+fn put_reason<E: Sink>(err: &mut E, front: &[u8], refusal: Refusal) -> Result<(), WriteFault>
+    ensures puts { PutsAll (E.written err.old) (E.written err.new) (front.now ++ refusal_text refusal) result }
+    ensures cause { WriteHasCause (E.faults err.old) (E.faults err.new) result }
+    ensures faults { E.faults err.old ≤ E.faults err.new }
+{
+    put_all(err, front)?;
+    put_kind_at(err, refusal)
 }
 
 // Writes one text after another.
@@ -65,4 +75,15 @@ fn put_both<E: Sink>(err: &mut E, first: &[u8], second: &[u8]) -> Result<(), Wri
 {
     put_all(err, first)?;
     put_all(err, second)
+}
+
+// Writes the kind and the place of a refusal.
+#[tactic(auto, using(crate::proofs::ReportLemmas::puts))]
+fn put_kind_at<E: Sink>(err: &mut E, refusal: Refusal) -> Result<(), WriteFault>
+    ensures puts { PutsAll (E.written err.old) (E.written err.new) (refusal_text refusal) result }
+    ensures cause { WriteHasCause (E.faults err.old) (E.faults err.new) result }
+    ensures faults { E.faults err.old ≤ E.faults err.new }
+{
+    put_both(err, refusal.kind.text().as_bytes(), b" at ")?;
+    put_all(err, Buffer::new().format(refusal.at).as_bytes())
 }
