@@ -8,6 +8,11 @@ const SQUARES: &str = "input a: array;\narray a | map x -> x * x + 1 | print";
 
 const PLAIN: &str = "input a: array;\narray a | print";
 
+/// Comments, parentheses, a name outside of ASCII and 40 operators. The depth without parentheses
+/// is 41.
+const FORTY: &str =
+    "# forty\ninput größe: array; # of words\narray größe\n| map größe -> ((größe) * (größe - 1))+1+1+1+1+1+1+1+1+1+1+1+1+1+1+1+1+1+1+1+1+1+1+1+1+1+1+1+1+1+1+1+1+1+1+1+1+1+1 # 38 of these\n| print";
+
 /// The status, and what `out` and `err` got, of words over one file `p`.
 #[derive(Drop)]
 struct Answer {
@@ -52,7 +57,7 @@ fn declared_in(text: &[u8]) -> u32 {
 
 #[test]
 fn compiles_with_few_variables(rt: HostRuntime) -> Result<(), Fail> {
-    for (text, most) in [(SQUARES, 122), (PLAIN, 72)] {
+    for (text, most) in [(SQUARES, 122), (PLAIN, 72), (FORTY, 350)] {
         let it = compiled(rt.alloc(), text.as_bytes())?;
         assert_eq!(rt; it.status, Status::Done, "{text}");
         assert!(rt;
@@ -69,48 +74,98 @@ fn compiles_with_few_variables(rt: HostRuntime) -> Result<(), Fail> {
 
 #[test]
 fn says_why_nothing_is_written(rt: HostRuntime) -> Result<(), Fail> {
-    let refused = "strymonas: refused: Unbuilt at 0\n";
-    let cases: [(&[&str], &str, Status, &str); 9] = [
-        (
-            &["compile", "p"],
-            "input a: array;\nrange(0, 3) | print",
-            Status::Refused,
-            refused,
-        ),
-        (&["compile", "p"], "", Status::Refused, refused),
+    let words = "strymonas: words\n";
+    let cases: [(&[&str], Status, &str); 7] = [
         (
             &["compile", "q"],
-            PLAIN,
             Status::Missing,
             "strymonas: missing: q\n",
         ),
-        (&["run", "p"], PLAIN, Status::Words, "strymonas: words\n"),
-        (&[], PLAIN, Status::Words, "strymonas: words\n"),
-        (&["compile"], PLAIN, Status::Words, "strymonas: words\n"),
-        (
-            &["compile", "p", "p"],
-            PLAIN,
-            Status::Words,
-            "strymonas: words\n",
-        ),
-        (
-            &["Compile", "p"],
-            PLAIN,
-            Status::Words,
-            "strymonas: words\n",
-        ),
-        (
-            &["compile", ""],
-            PLAIN,
-            Status::Missing,
-            "strymonas: missing: \n",
-        ),
+        (&["compile", ""], Status::Missing, "strymonas: missing: \n"),
+        (&["run", "p"], Status::Words, words),
+        (&[], Status::Words, words),
+        (&["compile"], Status::Words, words),
+        (&["compile", "p", "p"], Status::Words, words),
+        (&["Compile", "p"], Status::Words, words),
     ];
-    for (words, text, status, line) in cases {
-        let it = run_over(rt.alloc(), words, text.as_bytes(), 4096, 64)?;
+    for (words, status, line) in cases {
+        let it = run_over(rt.alloc(), words, PLAIN.as_bytes(), 4096, 64)?;
         assert_eq!(rt; it.status, status, "{line}");
         assert!(rt; it.out.bytes().is_empty(), "{line}");
         assert_eq!(rt; it.err.bytes(), line.as_bytes(), "{line}");
+    }
+    Ok(())
+}
+
+/// Asserts that the text is refused for this reason, or compiled where the reason is empty.
+fn assert_reason(rt: &HostRuntime, text: &[u8], reason: &str) -> Result<(), Fail> {
+    let it = compiled(rt.alloc(), text)?;
+    if reason.is_empty() {
+        assert_eq!(&rt; it.status, Status::Done);
+        assert!(&rt; it.err.bytes().is_empty());
+        return Ok(());
+    }
+    let line = format!(in rt.alloc(); "strymonas: refused: {reason}\n")?;
+    assert_eq!(&rt; it.err.bytes(), line.as_bytes(), "{reason}");
+    assert_eq!(&rt; it.status.code(), 3, "{reason}");
+    assert!(&rt; it.out.bytes().is_empty(), "{reason}");
+    Ok(())
+}
+
+#[test]
+fn names_the_reason_and_its_place(rt: HostRuntime) -> Result<(), Fail> {
+    let cases: [(&[u8], &str); 8] = [
+        (b"", "Syntax at 0"),
+        (b"range(0, 3) | print", "Unbuilt at 0"),
+        (
+            b"range(0, 9223372036854775808) | print",
+            "NumberTooLarge at 9",
+        ),
+        (b"range(0, 3) | map x -> x + | print", "Syntax at 27"),
+        (b"range(0, 3) | map x ->", "Syntax at 22"),
+        (b"input \xff: array;", "NotUtf8 at 6"),
+        (b"input a: array;\narray a $", "BadChar at 24"),
+        (b"# none", "Syntax at 6"),
+    ];
+    for (text, reason) in cases {
+        assert_reason(&rt, text, reason)?;
+    }
+    Ok(())
+}
+
+/// A front, so many times a part, a middle, as often another part, and an end.
+fn repeated(alloc: Global, parts: [&str; 5], times: u32) -> Result<Vec<u8>, NoMemory> {
+    let mut text = Vec::from_slice(alloc, parts[0].as_bytes())?;
+    for _ in 0..times {
+        text.extend_from_slice(parts[1].as_bytes())?;
+    }
+    text.extend_from_slice(parts[2].as_bytes())?;
+    for _ in 0..times {
+        text.extend_from_slice(parts[3].as_bytes())?;
+    }
+    text.extend_from_slice(parts[4].as_bytes())?;
+    Ok(text)
+}
+
+#[test]
+fn a_text_has_limits(rt: HostRuntime) -> Result<(), Fail> {
+    let deep = ["range(0, ", "(", "1", ")", ") | print"];
+    let inputs = ["", "input a: array;", "array a | print", "", ""];
+    let ops = ["array a", " | take 1", " | print", "", ""];
+    let nodes = ["range(0, 1) | map x -> {", "x,", "x} | print", "", ""];
+    let cases = [
+        (deep, 199, "Unbuilt at 0"),
+        (deep, 200, "TooDeep at 208"),
+        (inputs, 16, "Unbuilt at 0"),
+        (inputs, 17, "TooManyInputs at 240"),
+        (ops, 126, "Unbuilt at 0"),
+        (ops, 127, "TooManyOps at 1153"),
+        (nodes, 8189, "Unbuilt at 0"),
+        (nodes, 8190, "TooManyNodes at 16404"),
+    ];
+    for (parts, times, reason) in cases {
+        let text = repeated(rt.alloc(), parts, times)?;
+        assert_reason(&rt, text.as_slice(), reason)?;
     }
     Ok(())
 }
@@ -123,10 +178,9 @@ fn a_text_may_have_65536_bytes(rt: HostRuntime) -> Result<(), Fail> {
     assert_eq!(rt; long.err.bytes(), b"strymonas: too long: p\n".as_slice());
     assert!(rt; long.out.bytes().is_empty());
     let most = compiled(rt.alloc(), &blanks[1..])?;
-    assert_eq!(rt; most.status, Status::Refused);
     assert_eq!(rt;
         most.err.bytes(),
-        b"strymonas: refused: Unbuilt at 0\n".as_slice()
+        b"strymonas: refused: Syntax at 65536\n".as_slice()
     );
     Ok(())
 }
@@ -145,32 +199,29 @@ fn a_full_output_ends_with_a_prefix(rt: HostRuntime) -> Result<(), Fail> {
 
 #[test]
 fn the_first_form_has_these_edges(rt: HostRuntime) -> Result<(), Fail> {
-    let sixteen = "+1+1+1+1+1+1+1+1+1+1+1+1+1+1+1+1";
     let cases = [
-        ("x", Status::Done),
-        ("\t x*x\r\n-x ", Status::Done),
-        ("0007 * 9223372036854775807", Status::Done),
-        ("9223372036854775808", Status::Refused),
-        ("y", Status::Refused),
-        ("a", Status::Refused),
-        ("(x)", Status::Refused),
-        ("{x}", Status::Refused),
-        ("-x", Status::Refused),
-        ("x - - 1", Status::Refused),
-        ("x / 2", Status::Refused),
-        ("x + # one\n1", Status::Refused),
-        ("x x", Status::Refused),
-        ("", Status::Refused),
+        ("x", ""),
+        ("\t x*x\r\n-x ", ""),
+        ("0007 * 9223372036854775807", ""),
+        ("9223372036854775808", "NumberTooLarge at 30"),
+        ("(x)", ""),
+        ("((x) - (1 + x)) * 2", ""),
+        ("x + # one\n1", ""),
+        ("y", "Unbuilt at 0"),
+        ("a", "Unbuilt at 0"),
+        ("{x}", "Unbuilt at 0"),
+        ("-x", "Unbuilt at 0"),
+        ("x - - 1", "Unbuilt at 0"),
+        ("x / 2", "Unbuilt at 0"),
+        ("len(a)", "Unbuilt at 0"),
+        ("if true then x else x", "Unbuilt at 0"),
+        ("(x", "Syntax at 32"),
+        ("x x", "Syntax at 32"),
+        ("", "Syntax at 30"),
     ];
-    for (body, status) in cases {
+    for (body, reason) in cases {
         let text = format!(in rt.alloc(); "input a: array;array a|map x->{body}|print")?;
-        let it = compiled(rt.alloc(), text.as_bytes())?;
-        assert_eq!(rt; it.status, status, "{body}");
-    }
-    for (more, status) in [("", Status::Done), ("*x", Status::Refused)] {
-        let text = format!(in rt.alloc(); "input a: array;array a|map x->x{sixteen}{more}|print")?;
-        let it = compiled(rt.alloc(), text.as_bytes())?;
-        assert_eq!(rt; it.status, status, "{more}");
+        assert_reason(&rt, text.as_bytes(), reason)?;
     }
     Ok(())
 }
@@ -178,24 +229,38 @@ fn the_first_form_has_these_edges(rt: HostRuntime) -> Result<(), Fail> {
 #[test]
 fn names_are_declared_and_no_keywords(rt: HostRuntime) -> Result<(), Fail> {
     let cases = [
+        ("input a1_: array; array a1_ | map a1_ -> a1_ | print", ""),
+        ("input é: array; array é | map x -> x | print", ""),
+        ("input a: array; array b | print", "Unbuilt at 0"),
+        ("input a: int; array a | print", "Unbuilt at 0"),
         (
-            "input a1_: array; array a1_ | map a1_ -> a1_ | print",
-            Status::Done,
+            "input a: array; input b: array; array a | print",
+            "Unbuilt at 0",
         ),
-        ("input a: array; array b | print", Status::Refused),
-        ("input least: array; array least | print", Status::Refused),
-        ("input a: int; array a | print", Status::Refused),
-        ("input a: array; array a || print", Status::Refused),
-        ("input a: array; array a | print | print", Status::Refused),
+        ("array a | print", "Unbuilt at 0"),
+        (
+            "input a: array; array a | map {x} -> x | print",
+            "Unbuilt at 0",
+        ),
+        (
+            "input a: array; array a | filter x -> x < 1 | print",
+            "Unbuilt at 0",
+        ),
+        (
+            "input a: array; array a | fold 0 with s x -> s + x",
+            "Unbuilt at 0",
+        ),
         (
             "input a: array; array a | map x -> x | map x -> x | print",
-            Status::Refused,
+            "Unbuilt at 0",
         ),
-        ("inputa: array; array a | print", Status::Refused),
+        ("input least: array; array least | print", "Syntax at 6"),
+        ("input a: array; array a || print", "Syntax at 24"),
+        ("input a: array; array a | print | print", "Syntax at 32"),
+        ("inputa: array; array a | print", "Syntax at 0"),
     ];
-    for (text, status) in cases {
-        let it = compiled(rt.alloc(), text.as_bytes())?;
-        assert_eq!(rt; it.status, status, "{text}");
+    for (text, reason) in cases {
+        assert_reason(&rt, text.as_bytes(), reason)?;
     }
     Ok(())
 }
