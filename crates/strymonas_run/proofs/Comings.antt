@@ -10,7 +10,8 @@ use Rattle.strymonas_run.specs.declared.refusal.Refusal.{Refusal}
 use Rattle.strymonas_run.specs.declared.statuses.Status.{Status}
 use Rattle.strymonas_run.specs.declared.statuses.Status.TheVariants.{Done, Words, Missing, Refused, ReadFault, WriteFault, NoMemory, TooLong}
 use Rattle.strymonas_run.specs.PipelineFile.{IsPipelineFile}
-use Rattle.strymonas_run.specs.Refusals.{IsRefused, IsReading}
+use Rattle.strymonas_run.specs.Refusals.{IsRefused}
+use Rattle.strymonas_run.specs.Reading.{IsReading}
 use Rattle.strymonas_run.specs.Compiling.{IsTextOf, Answers, HasCause, ComesWhere, IsTooLongFile, IsNoPipeline, IsRefusedFile, IsRefusal, IsComplete}
 
 -- what is held under a name and passes is what is known to be held

@@ -25,8 +25,8 @@ use Rattle.strymonas_run.specs.declared.refusal.TextFault.{TextFault}
 use Rattle.strymonas_run.specs.declared.refusal.TextFault.TheVariants.{Refused, NoMemory}
 use Rattle.strymonas_run.specs.FirstForm.{pipeline_for}
 use Rattle.strymonas_run.specs.PipelineFile.{IsPipelineFile}
-use Rattle.strymonas_run.specs.Refusals.{HasFault, IsRefused, Reading, ReadsAs, IsReading}
-use Rattle.strymonas_run.specs.Reading.{refused, of_tokens, of_tree, unbuilt, IsBuilt, FailsAs, IsRead}
+use Rattle.strymonas_run.specs.Refusals.{HasFault, IsRefused}
+use Rattle.strymonas_run.specs.Reading.{Reading, ReadsAs, IsReading, refused, of_tokens, of_tree, unbuilt, IsBuilt, FailsAs, IsRead}
 
 abbrev at_place : RefusalKind → ℕ → Refusal
 at_place kind at = record { kind = kind; at = at }

@@ -13,8 +13,8 @@ use Rattle.strymonas_run.specs.declared.refusal.TextFault.{TextFault}
 use Rattle.strymonas_run.specs.declared.statuses.Status.{Status}
 use Rattle.strymonas_run.specs.declared.statuses.Status.TheVariants.{Done, Words, Missing, Refused, ReadFault, WriteFault, NoMemory, TooLong}
 use Rattle.strymonas_run.specs.PipelineFile.{IsPipelineFile}
-use Rattle.strymonas_run.specs.Refusals.{IsRefused, Reading, ReadsAs, IsReading}
-use Rattle.strymonas_run.specs.Reading.{FailsAs}
+use Rattle.strymonas_run.specs.Refusals.{IsRefused}
+use Rattle.strymonas_run.specs.Reading.{Reading, ReadsAs, IsReading, FailsAs}
 use Rattle.strymonas_run.specs.Statements.{Routine}
 use Rattle.strymonas_run.specs.DeclaredNames.{block_declared}
 use Rattle.strymonas_run.specs.Layout.{layout}

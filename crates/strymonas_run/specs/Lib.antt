@@ -1,6 +1,7 @@
 pub mod FirstForm
 pub mod PipelineFile
 pub mod Refusals
+pub mod Reading
 pub mod Statements
 pub mod StatementCopies
 pub mod DeclaredNames
@@ -12,4 +13,3 @@ pub mod Headline
 pub mod Commands
 pub mod Statuses
 pub mod Compiling
-pub mod Reading

@@ -1,4 +1,4 @@
--- What the steps of reading a file's bytes give.
+-- What a file's bytes are, a pipeline or refused for one reason, and what the steps of reading them give.
 use Rattle.std.specs.Prelude.{◌≡◌, ℕ, List, Some, None, Result, Ok, Err}
 use Rattle.pipe_lexer.specs.declared.fault.LexFault.{LexFault}
 use Rattle.pipe_lexer.specs.declared.fault.LexFault.TheVariants as lex
@@ -7,13 +7,30 @@ use Rattle.pipe_grammar.specs.declared.fault.ParseFault.TheVariants as parse
 use Rattle.pipe_grammar.specs.Trees.{Text}
 use Rattle.list_denotation.specs.declared.program.Program.{Program}
 use Rattle.list_denotation.specs.Pipelines.{pipeline_of}
+use Rattle.list_denotation.specs.Terms.{Pipeline}
 use Rattle.strymonas_run.specs.declared.refusal.Refusal.{Refusal}
 use Rattle.strymonas_run.specs.declared.refusal.RefusalKind.{RefusalKind}
 use Rattle.strymonas_run.specs.declared.refusal.RefusalKind.TheVariants.{NotUtf8, BadChar, NumberTooLarge, Syntax, TooDeep, TooManyInputs, TooManyOps, TooManyNodes, Unbuilt}
 use Rattle.strymonas_run.specs.declared.refusal.TextFault.{TextFault}
 use Rattle.strymonas_run.specs.declared.refusal.TextFault.TheVariants.{Refused, NoMemory}
 use Rattle.strymonas_run.specs.FirstForm.{pipeline_for}
-use Rattle.strymonas_run.specs.Refusals.{IsReading}
+use Rattle.strymonas_run.specs.PipelineFile.{IsPipelineFile}
+use Rattle.strymonas_run.specs.Refusals.{IsRefused}
+
+-- a pipeline, or a reason
+abbrev pub Reading : Type 0
+Reading = Result Pipeline Refusal
+
+abbrev pub ReadsAs : List ℕ → Reading → Type 0
+ReadsAs src (Ok p) = IsPipelineFile src p
+ReadsAs src (Err r) = IsRefused src r
+
+-- the bytes are this and nothing else
+pub record IsReading (src : List ℕ) (reading : Reading) : Type 0 where
+  pub reads : ReadsAs src reading
+  pub only : (other : Reading) → ReadsAs src other → other ≡ reading
+
+-- ---- the steps
 
 abbrev pub refused : RefusalKind → ℕ → TextFault
 refused kind at = Refused (record { kind = kind; at = at })

@@ -1,7 +1,6 @@
--- Why a file is refused, and what its bytes are in all: a pipeline, or refused for one reason.
-use Rattle.std.specs.Prelude.{◌≡◌, ℕ, List, length, None, Result, Ok, Err}
+-- Why a file is refused: what is wrong with its bytes, by the kind and the place.
+use Rattle.std.specs.Prelude.{◌≡◌, ℕ, List, length, None, Err}
 use Rattle.pipe_lexer.specs.declared.token.Token.{Token}
-use Rattle.pipe_lexer.specs.declared.fault.LexFault.{LexFault}
 use Rattle.pipe_lexer.specs.declared.fault.LexFault.TheVariants as lex
 use Rattle.pipe_lexer.specs.Lexing.{IsLexed, LexesAs}
 use Rattle.pipe_grammar.specs.declared.fault.ParseFault.{ParseFault}
@@ -11,12 +10,10 @@ use Rattle.pipe_grammar.specs.Tokens.{toks_of}
 use Rattle.pipe_grammar.specs.Grammar.{IsSentence}
 use Rattle.pipe_grammar.specs.Bounds.{IsBounded}
 use Rattle.pipe_grammar.specs.Parsing.{ParsesAs}
-use Rattle.list_denotation.specs.Terms.{Pipeline}
 use Rattle.strymonas_run.specs.declared.refusal.Refusal.{Refusal}
 use Rattle.strymonas_run.specs.declared.refusal.RefusalKind.{RefusalKind}
 use Rattle.strymonas_run.specs.declared.refusal.RefusalKind.TheVariants.{NotUtf8, BadChar, NumberTooLarge, Syntax, TooDeep, TooManyInputs, TooManyOps, TooManyNodes, Unbuilt}
 use Rattle.strymonas_run.specs.FirstForm.{pipeline_for}
-use Rattle.strymonas_run.specs.PipelineFile.{IsPipelineFile}
 
 -- the bytes are no text within the limits: their tokens have this fault
 pub record HasFault (src : List ℕ) (fault : ParseFault) : Type 0 where
@@ -47,16 +44,3 @@ IsRefusedAt src Unbuilt at = IsUnbuilt src × (at ≡ 0)
 
 abbrev pub IsRefused : List ℕ → Refusal → Type 0
 IsRefused src r = IsRefusedAt src r.kind r.at
-
--- a pipeline, or a reason
-abbrev pub Reading : Type 0
-Reading = Result Pipeline Refusal
-
-abbrev pub ReadsAs : List ℕ → Reading → Type 0
-ReadsAs src (Ok p) = IsPipelineFile src p
-ReadsAs src (Err r) = IsRefused src r
-
--- the bytes are this and nothing else
-pub record IsReading (src : List ℕ) (reading : Reading) : Type 0 where
-  pub reads : ReadsAs src reading
-  pub only : (other : Reading) → ReadsAs src other → other ≡ reading

@@ -1,9 +1,11 @@
 //! The program as a library: a pipeline's text goes in, and its C text comes out.
 //!
-//! It stands on strm_num, strm_io and list_denotation. `run_words` carries the promise: unless
-//! memory is refused or a device fails, each file of the first form is compiled, and what is
-//! written is the text of a loop program that goes no further than the pipeline's lists, and as far
-//! as they do. The modules `loop_ir` and `c_printer` can be used by themselves: `print_c` gives the
+//! It stands on pipe_lexer and pipe_grammar for a text's tokens and its tree, on list_denotation for
+//! programs and what they mean, on strm_io for devices and on itoa for numbers. `run_words` carries
+//! the promise: unless memory is refused or a device fails, each file of the first form is compiled,
+//! and what is written is the text of a loop program that goes no further than the pipeline's lists,
+//! and as far as they do. Any other file is refused for the one reason that there is, with its
+//! place. The modules `loop_ir` and `c_printer` can be used by themselves: `print_c` gives the
 //! layout of any loop program.
 #![tactic(auto)]
 
