@@ -34,3 +34,7 @@ pub mod OtherStreams
 pub mod PlacelessWords
 pub mod PlacelessBounds
 pub mod ReadBack
+pub mod FirstTokens
+pub mod Readings
+pub mod Copies
+pub mod TextReadings

@@ -18,3 +18,6 @@ pub mod LeadCopies
 pub mod Readers
 pub mod Spellings
 pub mod Placeless
+pub mod Foldings
+pub mod Nesting
+pub mod WholeTexts

@@ -9,8 +9,9 @@ use Rattle.pipe_grammar.specs.declared.tree.TPat.{TPat}
 use Rattle.pipe_grammar.specs.declared.tree.TStream.{TStream}
 use Rattle.pipe_grammar.specs.declared.tree.TSource.{TSource}
 use Rattle.pipe_grammar.specs.declared.tree.TSource.TheOpen.{TSource-F, TStage-F, TStageNode-F, TStream-F}
-use Rattle.pipe_grammar.specs.declared.tree.TSource.TheFolds.{fold-TStream, fold-TSource, fold-TStage}
+use Rattle.pipe_grammar.specs.declared.tree.TSource.TheFolds.{fold-TStream, fold-TSource, fold-TStage, fold-TStageNode}
 use Rattle.pipe_grammar.specs.declared.tree.TStage.{TStage}
+use Rattle.pipe_grammar.specs.declared.tree.TStageNode.{TStageNode}
 use Rattle.pipe_grammar.specs.declared.tree.TTerminal.{TTerminal}
 use Rattle.pipe_grammar.specs.declared.tree.TTerminal.TheVariants as terminal
 use Rattle.pipe_grammar.specs.declared.tree.Decl.{Decl}
@@ -78,6 +79,10 @@ source_of = fold-TSource Source (ℕ → Stage) Stage Stream source_step stage_n
 
 abbrev pub stage_of : TStage → Stage
 stage_of = fold-TStage Source (ℕ → Stage) Stage Stream source_step stage_node_step stage_step stream_step
+
+-- what a stage is, at its place
+abbrev pub stage_at : ℕ → TStageNode → Stage
+stage_at at node = fold-TStageNode Source (ℕ → Stage) Stage Stream source_step stage_node_step stage_step stream_step node at
 
 abbrev pub stages_of : List TStage → Stages
 stages_of ss = listed (map stage_of ss)

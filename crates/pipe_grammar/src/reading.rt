@@ -6,16 +6,25 @@ ghost use Rattle.pipe_lexer.specs.Lexing.{IsLexed};
 ghost use Rattle.pipe_grammar.specs.Parsing.{Answer, ParsesAs, IsSameUnlessRefused, answer_of};
 ghost use Rattle.pipe_grammar.specs.Tokens.{toks_of};
 
+mod after;
+mod declarations;
 mod depths;
 mod expressions;
+mod folding;
 mod frames;
 mod lead;
 mod lines;
 mod operand;
+mod patterns;
 mod reader;
+mod rows;
 mod separator;
+mod sources;
 mod stack;
+mod stages;
 mod stepping;
+mod streams;
+mod texts;
 mod wholes;
 mod words;
 

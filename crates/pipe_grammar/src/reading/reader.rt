@@ -12,6 +12,7 @@ use std::alloc::Global;
 use strm_num::{List, NoMemory};
 
 /// The tokens of a text that are left to read.
+#[derive(Drop)]
 pub struct Reader<'a> {
     pub alloc: Global,
     pub src: &'a [u8],
@@ -22,9 +23,10 @@ pub struct Reader<'a> {
 
 impl Reader<'_> {
     ghost use Rattle.std.specs.Prelude.{◌≡◌, ◌-◌, IfOk};
+    ghost use Rattle.pipe_grammar.specs.Continuations.{is_separator};
     ghost use Rattle.pipe_grammar.specs.LeadCopies.{lead_copy};
     ghost use Rattle.pipe_grammar.specs.Parsing.{place_or_end};
-    ghost use Rattle.pipe_grammar.specs.Readers.{GoesOn, behind, end_of, kind_left, lead_at, left_of, text_left, word};
+    ghost use Rattle.pipe_grammar.specs.Readers.{GoesOn, behind, end_of, is_bar, is_brace, is_end, is_input, kind_left, lead_at, left_of, text_left, word};
     ghost use Rattle.pipe_grammar.specs.Reads.{Reads};
 
     /// What the next token is, or none where no token is left.
@@ -88,12 +90,47 @@ impl Reader<'_> {
         ParseFault::Syntax(self.place())
     }
 
+    /// Whether this separator is next.
+    pub fn is_next(&self, w: Separator) -> bool
+        ensures { result ≡ is_separator w (lead_at (left_of self.now)) }
+    {
+        self.lead() == Lead::Separator(w)
+    }
+
+    /// Whether no token is left.
+    pub fn is_done(&self) -> bool
+        ensures { result ≡ is_end (left_of self.now) }
+    {
+        self.left.is_empty()
+    }
+
+    /// Whether the keyword of a declaration is next.
+    pub fn is_input_next(&self) -> bool
+        ensures { result ≡ is_input (lead_at (left_of self.now)) }
+    {
+        self.lead() == Lead::Input
+    }
+
+    /// Whether a bar is next.
+    pub fn is_bar_next(&self) -> bool
+        ensures { result ≡ is_bar (lead_at (left_of self.now)) }
+    {
+        self.lead() == Lead::Bar
+    }
+
+    /// Whether an opening brace is next.
+    pub fn is_brace_next(&self) -> bool
+        ensures { result ≡ is_brace (lead_at (left_of self.now)) }
+    {
+        self.lead() == Lead::OpenBrace
+    }
+
     /// Goes past this separator; `Syntax` where another token is next.
     pub fn separator(&mut self, w: Separator) -> Result<(), ParseFault>
         ensures reads { Reads (word w) (end_of self.old) (left_of self.old) result (left_of self.new) }
         ensures on { GoesOn self.old self.new }
     {
-        if self.lead() != Lead::Separator(w) {
+        if !self.is_next(w) {
             return Err(self.syntax());
         }
         self.advance();

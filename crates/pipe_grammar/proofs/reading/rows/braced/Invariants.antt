@@ -1,0 +1,13 @@
+use Rattle.std.proofs.Common.{ℕ, length, map}
+use Rattle.pipe_grammar.specs.Continuations.{MoreParts}
+use Rattle.pipe_grammar.specs.Readers.{braced_parts}
+use Rattle.pipe_grammar.specs.TreeCopies.{formula_of}
+use Rattle.pipe_grammar.proofs.Readings.{Comes}
+use Rattle.pipe_grammar.proofs.reading.rows.braced.Given as goal
+
+-- what is to come are more parts behind those that were read
+abbrev pub invariant-loop-reader : goal.invariant-loop-reader
+invariant-loop-reader l = Comes (braced_parts l.at) l.fn.reader (MoreParts l.at (map formula_of l.parts)) l.reader
+
+abbrev pub decreases-loop-reader : goal.decreases-loop-reader
+decreases-loop-reader l = length l.reader.left.now
