@@ -6,15 +6,15 @@ use Rattle.pipe_grammar.specs.Grammar.{IsSentence}
 use Rattle.pipe_grammar.specs.Parsing.{Answer, ParsesAs, IsSameUnlessRefused}
 use Rattle.pipe_grammar.specs.Tokens.{Tok}
 use Rattle.pipe_grammar.specs.Trees.{Text}
-use Rattle.pipe_grammar.proofs.Exactness.{Laws, IsStart, exact, one_tree}
+use Rattle.pipe_grammar.proofs.Exactness.{exact, one_tree}
 use Rattle.pipe_grammar.proofs.OneAnswer.{one_answer}
+use Rattle.pipe_grammar.proofs.TextLaws.{laws, is_start}
 
-module _ (laws : Laws texts text_reader) (start : IsStart texts text_reader laws (MoreDeclarations [])) where
-  pub texts_are_read_exactly : (toks : List Tok) → IsExact texts toks (read_text toks)
-  texts_are_read_exactly toks = exact texts text_reader laws (MoreDeclarations []) start toks
+pub texts_are_read_exactly : (toks : List Tok) → IsExact texts toks (read_text toks)
+texts_are_read_exactly toks = exact texts text_reader laws (MoreDeclarations []) is_start toks
 
-  pub sentences_have_one_tree : (toks : List Tok) (t u : Text) → IsSentence toks t → IsSentence toks u → t ≡ u
-  sentences_have_one_tree toks t u h k = one_tree texts text_reader laws (MoreDeclarations []) start toks t u h k
+pub sentences_have_one_tree : (toks : List Tok) (t u : Text) → IsSentence toks t → IsSentence toks u → t ≡ u
+sentences_have_one_tree toks t u h k = one_tree texts text_reader laws (MoreDeclarations []) is_start toks t u h k
 
-  pub answers_are_one : (end : ℕ) (toks : List Tok) (a b : Answer) → ParsesAs end toks a → ParsesAs end toks b → IsSameUnlessRefused a b
-  answers_are_one end toks a b h k = one_answer sentences_have_one_tree end toks a b h k
+pub answers_are_one : (end : ℕ) (toks : List Tok) (a b : Answer) → ParsesAs end toks a → ParsesAs end toks b → IsSameUnlessRefused a b
+answers_are_one end toks a b h k = one_answer sentences_have_one_tree end toks a b h k

@@ -1,6 +1,5 @@
-use Rattle.pipe_grammar.proofs.TextLaws.{laws, is_start}
 use Rattle.pipe_grammar.proofs.WholeTexts.{answers_are_one}
 use Rattle.pipe_grammar.proofs.laws.answers_are_one.Goals as goal
 
 pub returns : goal.returns
-returns c = answers_are_one laws is_start
+returns c = answers_are_one
