@@ -38,3 +38,4 @@ pub mod FirstTokens
 pub mod Readings
 pub mod Copies
 pub mod TextReadings
+pub mod Counts

@@ -21,3 +21,4 @@ pub mod Placeless
 pub mod Foldings
 pub mod Nesting
 pub mod WholeTexts
+pub mod Counting

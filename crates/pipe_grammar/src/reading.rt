@@ -7,6 +7,7 @@ ghost use Rattle.pipe_grammar.specs.Parsing.{Answer, ParsesAs, IsSameUnlessRefus
 ghost use Rattle.pipe_grammar.specs.Tokens.{toks_of};
 
 mod after;
+mod counts;
 mod declarations;
 mod depths;
 mod expressions;
@@ -14,7 +15,9 @@ mod folding;
 mod frames;
 mod lead;
 mod lines;
+mod nodes;
 mod operand;
+mod ops;
 mod patterns;
 mod reader;
 mod rows;
