@@ -18,3 +18,26 @@ count_append (at ∷ xs) ys (suc room) = count_append xs ys room
 pub count_cons : (at : ℕ) (ys : List ℕ) (room : ℕ) → count_of (at ∷ ys) room ≡ counted (count_of (at ∷ []) room) ys
 count_cons at ys zero = refl
 count_cons at ys (suc room) = refl
+
+-- there is room for all of them
+pub count_fits : (places : List ℕ) (room left : ℕ) → count_of places room ≡ Ok left → length places ≤ room
+count_fits [] room left h = omega arith
+count_fits (at ∷ places) zero left h = cc
+count_fits (at ∷ places) (suc room) left h = let few = count_fits places room left h in omega arith
+
+-- the place of the first that is one too many
+place_past : Result ℕ Past → ℕ
+place_past (Ok room) = 0
+place_past (Err p) = p.at
+
+same_place : (p q : Past) → (let r : Result ℕ Past = Err p in r) ≡ Err q → p.at ≡ q.at
+unfolding place_past
+same_place p q h = ap place_past h
+
+-- the first that is one too many
+pub count_past : (places : List ℕ) (room at : ℕ) → count_of places room ≡ Err (record { at = at }) → IsPast room places at
+count_past [] room at h = cc
+count_past (p ∷ places) zero at h = record { before = []; after = places; parts = ap (λ (q : ℕ). q ∷ places) (same_place (record { at = p }) (record { at = at }) h); count = refl }
+count_past (p ∷ places) (suc room) at h =
+    let later = count_past places room at h in
+    record { before = p ∷ later.before; after = later.after; parts = ap (λ (xs : List ℕ). p ∷ xs) later.parts; count = ap suc later.count }

@@ -23,6 +23,7 @@ pub mod TextLaws
 pub mod OneOutcome
 pub mod OneAnswer
 pub mod WholeTexts
+pub mod ParsedTexts
 pub mod PrintedTexts
 pub mod TreeTokens
 pub mod Wholes
@@ -39,3 +40,4 @@ pub mod Readings
 pub mod Copies
 pub mod TextReadings
 pub mod Counts
+pub mod Slices

@@ -24,7 +24,8 @@ text_stops end x (fault.TooManyOps at) y h = h
 text_stops end x (fault.TooManyNodes at) y h = h
 text_stops end x fault.NoMemory y h = h
 
-fault_is : (r : Result Tree ParseFault) (e : ParseFault) → IsFault r e → Err e ≡ r
+-- a result that is this fault
+pub fault_is : (r : Result Tree ParseFault) (e : ParseFault) → IsFault r e → Err e ≡ r
 fault_is (Ok a) e h = cc
 fault_is (Err g) e h = ap Err (sym h.1)
 

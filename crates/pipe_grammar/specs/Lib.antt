@@ -22,3 +22,4 @@ pub mod Foldings
 pub mod Nesting
 pub mod WholeTexts
 pub mod Counting
+pub mod CountedTexts

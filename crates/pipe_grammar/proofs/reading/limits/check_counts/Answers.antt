@@ -1,0 +1,46 @@
+use Rattle.std.proofs.Common.{◌≡◌, ℕ, ◌≤◌, List, length, map, sym, ◌∙◌, ap}
+use Rattle.pipe_grammar.specs.declared.tree.Decl.{Decl}
+use Rattle.pipe_grammar.specs.Bounds.{text_inputs, text_ops, text_heads}
+use Rattle.pipe_grammar.specs.Counting.{count_of}
+use Rattle.pipe_grammar.specs.TreeCopies.{declaration_of, text_of}
+use Rattle.pipe_grammar.specs.Trees.{Declaration}
+use Rattle.pipe_grammar.proofs.Counts.{count_fits, count_past}
+use Rattle.pipe_grammar.proofs.reading.limits.check_counts.Goals as goal
+
+places_of : List Decl → List ℕ
+places_of ds = map (λ (d : Declaration). d.at) (map declaration_of ds)
+
+pub returns-in-Err : goal.returns-in-Err
+unfolding places_of
+returns-in-Err c =
+    count_past (text_inputs (text_of c.args.tree.now)) 16 c.in-Err.past.at
+    (ap (λ ds. count_of (places_of ds) 16) (sym c.as_slice.ensures) ∙ sym c.count_inputs.ensures ∙ c.in-Err.is)
+
+pub returns-in-Err-count_ops : goal.returns-in-Err-count_ops
+unfolding places_of
+returns-in-Err-count_ops c =
+    let tree = text_of c.args.tree.now in
+    (count_fits (text_inputs tree) 16 c.in_default.field-0
+    (ap (λ ds. count_of (places_of ds) 16) (sym c.as_slice.ensures) ∙ sym c.count_inputs.ensures ∙ c.in_default.is),
+    count_past (text_ops tree) 128 c.in-Err-count_ops.past.at (sym c.count_ops.ensures ∙ c.in-Err-count_ops.is))
+
+pub returns-in-Err-count_nodes : goal.returns-in-Err-count_nodes
+unfolding places_of
+returns-in-Err-count_nodes c =
+    let tree = text_of c.args.tree.now in
+    (count_fits (text_inputs tree) 16 c.in_default.field-0
+    (ap (λ ds. count_of (places_of ds) 16) (sym c.as_slice.ensures) ∙ sym c.count_inputs.ensures ∙ c.in_default.is),
+    count_fits (text_ops tree) 128 c.in_default-count_ops.field-0 (sym c.count_ops.ensures ∙ c.in_default-count_ops.is),
+    count_past (text_heads tree) 8192 c.in-Err-count_nodes.past.at (sym c.count_nodes.ensures ∙ c.in-Err-count_nodes.is))
+
+pub returns : goal.returns
+unfolding places_of
+returns c =
+    let tree = text_of c.args.tree.now in
+    record {
+      inputs =
+          count_fits (text_inputs tree) 16 c.in_default.field-0
+          (ap (λ ds. count_of (places_of ds) 16) (sym c.as_slice.ensures) ∙ sym c.count_inputs.ensures ∙ c.in_default.is);
+      ops = count_fits (text_ops tree) 128 c.in_default-count_ops.field-0 (sym c.count_ops.ensures ∙ c.in_default-count_ops.is);
+      nodes = count_fits (text_heads tree) 8192 c.in_default-count_nodes.field-0 (sym c.count_nodes.ensures ∙ c.in_default-count_nodes.is);
+    }
