@@ -65,7 +65,7 @@ NoPipeline src = (length src ≤ 65536) × ((p : Pipeline) → IsPipelineFile sr
 abbrev RefusedSource : Refusal → List ℕ → Type 0
 RefusedSource r src = (length src ≤ 65536) × IsRefused src r
 
--- a file that is too long isn't also one that is not
+-- no file is both too long and within the limit
 both_lengths : (file : Option (List ℕ)) (fact : List ℕ → Type 0) → IsTooLongFile file → IsSomeAnd file (λ src. (length src ≤ 65536) × fact src) → ⊥
 both_lengths None fact long short = long
 both_lengths (Some src) fact long short = omega (arith, long, short.0)

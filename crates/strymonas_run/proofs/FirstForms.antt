@@ -1,23 +1,22 @@
 -- Trees of the first form: what they stand for is no larger than they are, and so is a program.
-use Rattle.std.proofs.Common.{◌≡◌, ℕ, zero, suc, ◌+◌, ◌≤◌, List, [], ◌∷◌, ◌++◌, length, max, Option, Some, None, Bool, true, false, ◌&&◌, refl, ap, sym, ◌∙◌, subst, length-append, arith}
+use Rattle.std.proofs.Common.{◌≡◌, ℕ, ◌+◌, ◌≤◌, List, [], ◌∷◌, ◌++◌, length, max, Option, Some, None, Bool, true, false, ◌&&◌, refl, ap, sym, ◌∙◌, subst, length-append, arith}
 use Rattle.std.specs.Prelude.{IsTrue, nat_le, option_map, if◌then◌else◌}
 use Rattle.std.specs.Str.{bytes_eq}
 use Rattle.std.proofs.lemmas.Bool.{le-leb}
 use Rattle.strm_num.proofs.Truths.{true_both}
 use Rattle.pipe_grammar.specs.declared.tree.TStage.{TStage}
-use Rattle.pipe_grammar.specs.Trees.{Formula, Num, Truth, Name, Len, Neg, Not, Paren, Bin, And, Or, If, Label, Row, Pattern, Stream, From, Source, Array, Range, Unfold, Zip, Stage, Map, Filter, TakeWhile, Take, Drop, Scan, FlatMap, Stages, Nil, Cons, Text}
+use Rattle.pipe_grammar.specs.Trees.{Formula, Num, Truth, Name, Len, Neg, Not, Paren, Bin, And, Or, If, Label, Stream, From, Array, Range, Unfold, Zip, Map, Filter, TakeWhile, Take, Drop, Scan, FlatMap, Stages, Nil, Cons, Text}
 use Rattle.pipe_grammar.specs.TreeCopies.{stages_of}
-use Rattle.pipe_grammar.specs.Bounds.{IsBounded, depth_of, heads_of, row_depth, row_heads, of_stages, stages_depth, stream_depth, stream_heads, terminal_depth, terminal_heads}
+use Rattle.pipe_grammar.specs.Bounds.{IsBounded, depth_of, heads_of, row_depth, row_heads, of_stages, stages_depth, stream_depth, stream_heads, terminal_heads}
 use Rattle.list_denotation.specs.declared.expr.BinOp.{BinOp}
 use Rattle.list_denotation.specs.declared.input.InputKind.TheVariants as kind
 use Rattle.list_denotation.specs.declared.stream.Stream as code
 use Rattle.list_denotation.specs.Terms as term
 use Rattle.list_denotation.specs.Terms.{Term, Pipe}
 use Rattle.list_denotation.specs.Copies.{pipe_of}
-use Rattle.list_denotation.specs.Counts.{term_nodes, term_depth, stream_ops, stream_nodes}
-use Rattle.list_denotation.specs.Counts as counts
+use Rattle.list_denotation.specs.Counts.{term_nodes, term_depth}
 use Rattle.list_denotation.specs.Typing.{is_bound, width_of_row, width_of, has_width, is_within_limits, is_typed}
-use Rattle.strymonas_run.specs.FirstForm.{built_operator, operation, term_for, unbraced, mapped, stage_for, stages_for, pipe_for}
+use Rattle.strymonas_run.specs.FirstForm.{built_operator, operation, term_for, unbraced, mapped, stages_for, pipe_for}
 
 -- two stages and more are not in it
 pub many_stages : (ss : List TStage) → 2 ≤ length ss → stages_for (stages_of ss) ≡ None

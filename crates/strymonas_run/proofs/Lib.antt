@@ -10,6 +10,7 @@ pub mod CountsToTwo
 pub mod PrintedText
 pub mod ReportLemmas
 pub mod FirstForms
+pub mod FirstFormRows
 pub mod Readings
 pub mod Comings
 pub mod Squares

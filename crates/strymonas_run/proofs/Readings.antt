@@ -12,11 +12,9 @@ use Rattle.pipe_grammar.specs.declared.fault.ParseFault.TheVariants as parse
 use Rattle.pipe_grammar.specs.Trees.{Text}
 use Rattle.pipe_grammar.specs.Tokens.{Tok, toks_of}
 use Rattle.pipe_grammar.specs.Grammar.{IsSentence}
-use Rattle.pipe_grammar.specs.Bounds.{IsBounded}
 use Rattle.pipe_grammar.specs.Parsing as parsing
 use Rattle.pipe_grammar.specs.Parsing.{ParsesAs}
 use Rattle.list_denotation.specs.declared.program.Program.{Program}
-use Rattle.list_denotation.specs.Pipelines.{pipeline_of}
 use Rattle.list_denotation.specs.Terms.{Pipeline}
 use Rattle.strymonas_run.specs.declared.refusal.Refusal.{Refusal}
 use Rattle.strymonas_run.specs.declared.refusal.RefusalKind.{RefusalKind}
@@ -24,9 +22,8 @@ use Rattle.strymonas_run.specs.declared.refusal.RefusalKind.TheVariants.{NotUtf8
 use Rattle.strymonas_run.specs.declared.refusal.TextFault.{TextFault}
 use Rattle.strymonas_run.specs.declared.refusal.TextFault.TheVariants.{Refused, NoMemory}
 use Rattle.strymonas_run.specs.FirstForm.{pipeline_for}
-use Rattle.strymonas_run.specs.PipelineFile.{IsPipelineFile}
 use Rattle.strymonas_run.specs.Refusals.{HasFault, IsRefused}
-use Rattle.strymonas_run.specs.Reading.{Reading, ReadsAs, IsReading, refused, of_tokens, of_tree, unbuilt, IsBuilt, FailsAs, IsRead}
+use Rattle.strymonas_run.specs.Reading.{Reading, ReadsAs, refused, of_tokens, of_tree, unbuilt, IsBuilt, FailsAs, IsRead}
 
 abbrev at_place : RefusalKind → ℕ → Refusal
 at_place kind at = record { kind = kind; at = at }

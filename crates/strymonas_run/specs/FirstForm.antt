@@ -5,7 +5,7 @@ use Rattle.pipe_lexer.specs.declared.operator.BinOp as written
 use Rattle.pipe_lexer.specs.declared.operator.BinOp.TheVariants as sign
 use Rattle.pipe_lexer.specs.declared.operator.InputKind as declared
 use Rattle.pipe_lexer.specs.declared.operator.InputKind.TheVariants as input
-use Rattle.pipe_grammar.specs.Trees.{Formula, Num, Truth, Name, Len, Neg, Not, Paren, Bin, And, Or, If, Label, Row, Pattern, Stream, From, Source, Array, Range, Unfold, Zip, Stage, Map, Filter, TakeWhile, Take, Drop, Scan, FlatMap, Stages, Nil, Cons, Terminal, Fold, Print, Declaration, Text}
+use Rattle.pipe_grammar.specs.Trees.{Formula, Num, Truth, Name, Len, Neg, Not, Paren, Bin, And, Or, If, Label, Stream, From, Array, Range, Unfold, Zip, Stage, Map, Filter, TakeWhile, Take, Drop, Scan, FlatMap, Stages, Nil, Cons, Terminal, Fold, Print, Declaration, Text}
 use Rattle.list_denotation.specs.declared.expr.BinOp.{BinOp}
 use Rattle.list_denotation.specs.declared.expr.BinOp.TheVariants.{Add, Sub, Mul}
 use Rattle.list_denotation.specs.declared.input.InputKind.TheVariants as kind
