@@ -66,17 +66,6 @@ fn put_reason<E: Sink>(err: &mut E, front: &[u8], refusal: Refusal) -> Result<()
     put_kind_at(err, refusal)
 }
 
-// Writes one text after another.
-#[tactic(auto, using(crate::proofs::ReportLemmas::puts))]
-fn put_both<E: Sink>(err: &mut E, first: &[u8], second: &[u8]) -> Result<(), WriteFault>
-    ensures puts { PutsAll (E.written err.old) (E.written err.new) (first.now ++ second.now) result }
-    ensures cause { WriteHasCause (E.faults err.old) (E.faults err.new) result }
-    ensures faults { E.faults err.old ≤ E.faults err.new }
-{
-    put_all(err, first)?;
-    put_all(err, second)
-}
-
 // Writes the kind and the place of a refusal.
 #[tactic(auto, using(crate::proofs::ReportLemmas::puts))]
 fn put_kind_at<E: Sink>(err: &mut E, refusal: Refusal) -> Result<(), WriteFault>
@@ -86,4 +75,15 @@ fn put_kind_at<E: Sink>(err: &mut E, refusal: Refusal) -> Result<(), WriteFault>
 {
     put_both(err, refusal.kind.text().as_bytes(), b" at ")?;
     put_all(err, Buffer::new().format(refusal.at).as_bytes())
+}
+
+// Writes one text after another.
+#[tactic(auto, using(crate::proofs::ReportLemmas::puts))]
+fn put_both<E: Sink>(err: &mut E, first: &[u8], second: &[u8]) -> Result<(), WriteFault>
+    ensures puts { PutsAll (E.written err.old) (E.written err.new) (first.now ++ second.now) result }
+    ensures cause { WriteHasCause (E.faults err.old) (E.faults err.new) result }
+    ensures faults { E.faults err.old ≤ E.faults err.new }
+{
+    put_all(err, first)?;
+    put_all(err, second)
 }
