@@ -10,7 +10,9 @@ use crate::fault::ParseFault;
 use crate::tree::Tree;
 
 const MOST_INPUTS: u32 = 16;
+
 const MOST_OPS: u32 = 128;
+
 const MOST_NODES: u32 = 8192;
 
 /// Finds the first count that is past its limit: the inputs, the operators, the nodes. The fault's place

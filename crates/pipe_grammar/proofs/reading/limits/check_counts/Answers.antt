@@ -19,19 +19,21 @@ returns-in-Err c =
 pub returns-in-Err-count_ops : goal.returns-in-Err-count_ops
 unfolding places_of
 returns-in-Err-count_ops c =
-    let tree = text_of c.args.tree.now in
-    (count_fits (text_inputs tree) 16 c.in_default.field-0
-    (ap (λ ds. count_of (places_of ds) 16) (sym c.as_slice.ensures) ∙ sym c.count_inputs.ensures ∙ c.in_default.is),
-    count_past (text_ops tree) 128 c.in-Err-count_ops.past.at (sym c.count_ops.ensures ∙ c.in-Err-count_ops.is))
+    let tree = text_of c.args.tree.now in (
+      count_fits (text_inputs tree) 16 c.in_default.field-0
+          (ap (λ ds. count_of (places_of ds) 16) (sym c.as_slice.ensures) ∙ sym c.count_inputs.ensures ∙ c.in_default.is),
+      count_past (text_ops tree) 128 c.in-Err-count_ops.past.at (sym c.count_ops.ensures ∙ c.in-Err-count_ops.is),
+    )
 
 pub returns-in-Err-count_nodes : goal.returns-in-Err-count_nodes
 unfolding places_of
 returns-in-Err-count_nodes c =
-    let tree = text_of c.args.tree.now in
-    (count_fits (text_inputs tree) 16 c.in_default.field-0
-    (ap (λ ds. count_of (places_of ds) 16) (sym c.as_slice.ensures) ∙ sym c.count_inputs.ensures ∙ c.in_default.is),
-    count_fits (text_ops tree) 128 c.in_default-count_ops.field-0 (sym c.count_ops.ensures ∙ c.in_default-count_ops.is),
-    count_past (text_heads tree) 8192 c.in-Err-count_nodes.past.at (sym c.count_nodes.ensures ∙ c.in-Err-count_nodes.is))
+    let tree = text_of c.args.tree.now in (
+      count_fits (text_inputs tree) 16 c.in_default.field-0
+          (ap (λ ds. count_of (places_of ds) 16) (sym c.as_slice.ensures) ∙ sym c.count_inputs.ensures ∙ c.in_default.is),
+      count_fits (text_ops tree) 128 c.in_default-count_ops.field-0 (sym c.count_ops.ensures ∙ c.in_default-count_ops.is),
+      count_past (text_heads tree) 8192 c.in-Err-count_nodes.past.at (sym c.count_nodes.ensures ∙ c.in-Err-count_nodes.is),
+    )
 
 pub returns : goal.returns
 unfolding places_of
