@@ -28,6 +28,8 @@ mod stack;
 mod stages;
 mod stepping;
 mod streams;
+#[cfg(test)]
+mod tests;
 mod texts;
 mod wholes;
 mod words;
