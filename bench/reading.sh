@@ -8,21 +8,23 @@ set -eu
 cd "$(dirname "$0")/.."
 program=$PWD/crates/strymonas_cli/out/strymonas_cli
 if [ ! -x "$program" ]; then
-  echo "there is no $program: build it with (cd crates/strymonas_cli && rt build)"
+  echo "there is no $program: rt ci leaves it there"
   exit 1
 fi
 work=$(mktemp -d)
 trap 'rm -rf "$work"' EXIT
 
-# text BYTES: an expression of sums and products, nodes within the limit by long names
+# text BYTES: a map whose row has as many parts as there is room for, each of five nodes
 text() {
   awk -v bytes="$1" 'BEGIN {
     name = "x"; while (length(name) < 30) name = name "x"
-    printf "range(0, 1) | map %s -> %s", name, name
-    n = 30 + 20 + 30
-    while (n + 33 < bytes - 20) { printf " + %s", name; n += 33 }
-    while (n < bytes - 10) { printf " "; n++ }
-    printf " | print\n"
+    part = name " * " name " + 1"
+    head = "range(0, 1) | map " name " -> {" part
+    printf "%s", head
+    n = length(head) + length("} | print\n")
+    while (n + length(part) + 2 <= bytes) { printf ", %s", part; n += length(part) + 2 }
+    while (n < bytes) { printf " "; n++ }
+    printf "} | print\n"
   }'
 }
 
