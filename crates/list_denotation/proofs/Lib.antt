@@ -1,1 +1,4 @@
 pub mod Limits
+pub mod TypedKinds
+pub mod ZipOfNested
+pub mod WorkedRows

@@ -1,10 +1,10 @@
 -- What is seen of a run, and of a pipeline at a bound.
-use Rattle.std.specs.Prelude.{ℕ, List, [], ◌∷◌}
+use Rattle.std.specs.Prelude.{ℕ, List, [], ◌∷◌, ◌++◌}
 use Rattle.list_denotation.specs.declared.event.Event.{Event}
 use Rattle.list_denotation.specs.declared.event.Event.TheVariants.{Emit, EndRow}
 use Rattle.list_denotation.specs.declared.input.Input.{Input}
-use Rattle.list_denotation.specs.Terms.{Finish, Print, Pipeline}
-use Rattle.list_denotation.specs.Values.{Fault}
+use Rattle.list_denotation.specs.Terms.{Finish, Fold, Print, Pipeline}
+use Rattle.list_denotation.specs.Values.{Fault, Got, Is, Fails, row_value}
 use Rattle.list_denotation.specs.Rows.{Ending, End, Cut, Broken, Rows, Ends, Row}
 use Rattle.list_denotation.specs.Denotation.{denotation}
 
@@ -32,9 +32,27 @@ abbrev pub printed : Rows → Seen
 printed (Ends e) = record { events = []; standing = standing_of e }
 printed (Row r rest) = record { events = row_events r (printed rest).events; standing = (printed rest).standing }
 
-abbrev pub finished : Finish → Rows → Seen
-finished Print rows = printed rows
+-- what is seen of a state where a stream ends like this: it is printed at the end alone
+abbrev pub state_at : Ending → List ℕ → Seen
+state_at End state = record { events = row_events state []; standing = Done }
+state_at Cut state = record { events = []; standing = Going }
+state_at (Broken f) state = record { events = []; standing = Failed f }
+
+-- what is seen from a state on, and a fault where there is none
+abbrev pub unless_failed : Got (List ℕ) → (List ℕ → Seen) → Seen
+unless_failed (Is s) go = go s
+unless_failed (Fails f) go = record { events = []; standing = Failed f }
+
+-- what is seen where the rows are folded into a state
+abbrev pub folded : (List ℕ → List ℕ → Got (List ℕ)) → List ℕ → Rows → Seen
+folded f state (Ends e) = state_at e state
+folded f state (Row r rest) = unless_failed (f state r) (λ s. folded f s rest)
+
+abbrev pub finished : Finish → List Input → Rows → Seen
+finished (Fold seed next) inputs rows =
+    unless_failed (row_value seed [] inputs) (λ s. folded (λ state r. row_value next (state ++ r) inputs) s rows)
+finished Print inputs rows = printed rows
 
 -- the observation of a pipeline at n pulls
 abbrev pub observation : Pipeline → List Input → ℕ → Seen
-observation p inputs n = finished p.terminal (denotation p.stream [] inputs n)
+observation p inputs n = finished p.terminal inputs (denotation p.stream [] inputs n)

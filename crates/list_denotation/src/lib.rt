@@ -3,20 +3,29 @@
 //! It stands on strm_num. The types here are the terms that a checked pipeline text becomes, and
 //! the inputs and events of a run. Their meaning stands in `specs/`, on plain copies of the terms:
 //! the value of an expression, the rows of a stream at a bound, the observation of a program, its
-//! work, its counts, and when one observation is as far as another. The crates above prove
-//! themselves against those definitions. `Program` keeps that it is typed and within the limits.
+//! work, its counts, the kinds of its rows, and when one observation is as far as another. The
+//! crates above prove themselves against those definitions. `Program` keeps that it is typed and
+//! within the limits, and the counts and `row_kinds` are what their definitions say of it.
 #![tactic(auto)]
 
 mod counts;
 mod event;
 mod expr;
 mod input;
+mod kind;
 mod program;
 mod stream;
+mod terminal;
+#[cfg(test)]
+mod tests;
+mod typing;
 
-pub use counts::{depth, most_vars, nodes, ops};
+pub use counts::{depth, loops_of, most_stmts, most_vars, nest_of, nodes, ops};
 pub use event::{Event, Events};
 pub use expr::{BinOp, Expr, Exprs};
 pub use input::{Input, InputKind, InputKinds, Inputs, Words};
-pub use program::{Program, Terminal};
+pub use kind::{Kind, Kinds};
+pub use program::Program;
 pub use stream::Stream;
+pub use terminal::Terminal;
+pub use typing::row_kinds;

@@ -7,7 +7,7 @@ use Rattle.pipe_grammar.specs.Continuations.{Continuation, End, Word, ALabel, AK
 use Rattle.pipe_grammar.specs.Depths.{least_of}
 use Rattle.pipe_grammar.specs.Grammar.{IsStream, IsSource, IsStage, IsTerminal, AreDeclared}
 use Rattle.pipe_grammar.specs.Machine as machine
-use Rattle.pipe_grammar.specs.Machine.{Goes, Leaves, Stuck, at_most}
+use Rattle.pipe_grammar.specs.Machine.{Goes, Leaves, Stuck}
 use Rattle.pipe_grammar.specs.Tokens.{Sym, Tok, tok}
 use Rattle.pipe_grammar.specs.TreeCopies.{listed}
 use Rattle.pipe_grammar.specs.Trees.{Formula, Label, Row, Pattern, Stream, From, Source, Array, Range, Unfold, Zip, Stage, Map, Filter, TakeWhile, Take, Drop, Scan, FlatMap, Terminal, Fold, Print, Declaration, Text}

@@ -1,18 +1,17 @@
 -- What the first token makes of what is to come.
 use Rattle.std.proofs.Common.{◌≡◌, ℕ, ◌≤◌, arith, List, [], ◌∷◌, ◌++◌, refl, sym, ◌∙◌, ap, Bool, true, false, cond}
 use Rattle.std.proofs.lemmas.Bool.Decides.{nat_tests}
-use Rattle.std.specs.Prelude.{Option, Some, None}
-use Rattle.pipe_grammar.specs.declared.reading.separator.Separator.{Separator}
-use Rattle.pipe_grammar.specs.declared.reading.separator.Separator.TheVariants.{With, While, Yield, Next, Arrow, OpenParen, CloseParen, CloseBrace, Comma, Colon, Semicolon}
-use Rattle.pipe_grammar.specs.Continuations.{Continuation, Word, ALabel, AnExpression, ARow, MoreParts, APattern, MoreNames, AStream, MoreStages, AStage, MoreDeclarations, declaration_form, source_form, source_begun, declared_on, ending, StageForm, MapForm, FilterForm, TakeWhileForm, TakeForm, DropForm, ScanForm, FlatMapForm, stage_form, stage_begun, outside, Lead, Names, Separates, Bars, Braces, Declares, IsInt, BeginsSource, BeginsStage, BeginsTerminal, Leads_nothing, Move, lead_of, is_separator, named, braced, listed_on, barred, inside, moved, expression, single_row, braced_row, single_pattern, braced_pattern, step, finish, is_near, read_from}
+use Rattle.std.specs.Prelude.{Some, None}
+use Rattle.pipe_grammar.specs.declared.reading.separator.Separator.TheVariants.{CloseBrace, Comma}
+use Rattle.pipe_grammar.specs.Continuations.{Continuation, Word, ALabel, AnExpression, ARow, MoreParts, APattern, MoreNames, AStream, MoreStages, AStage, MoreDeclarations, declaration_form, source_form, source_begun, declared_on, ending, StageForm, MapForm, FilterForm, TakeWhileForm, TakeForm, DropForm, ScanForm, FlatMapForm, stage_form, stage_begun, outside, Lead, Separates, Bars, Braces, Declares, BeginsStage, Move, lead_of, is_separator, named, braced, listed_on, barred, inside, moved, expression, single_row, braced_row, single_pattern, braced_pattern, step, is_near, read_from}
 use Rattle.pipe_grammar.specs.Exactness.{go_on, TooDeep}
 use Rattle.pipe_grammar.specs.Machine as machine
-use Rattle.pipe_grammar.specs.Machine.{Need, Leaf, Opens, Length, Nothing, Start, start_of, started, at_most, wants, frame_line}
-use Rattle.pipe_grammar.specs.Nesting.{source_depth, stage_depth}
+use Rattle.pipe_grammar.specs.Machine.{Need, Leaf, Opens, Length, Nothing, Start, start_of, started, at_most, frame_line}
+use Rattle.pipe_grammar.specs.Nesting.{stage_depth}
 use Rattle.pipe_grammar.specs.Parsing.{place_or_end}
 use Rattle.pipe_grammar.specs.Readers.{is_input, is_bar, is_brace, lead_at, behind, single_name, braced_names, single_part, braced_parts}
 use Rattle.pipe_grammar.specs.Reads.{Form, IsCalm}
-use Rattle.pipe_grammar.specs.Tokens.{What, Tok}
+use Rattle.pipe_grammar.specs.Tokens.{Tok}
 use Rattle.pipe_grammar.specs.TreeCopies.{listed}
 use Rattle.pipe_grammar.specs.Trees.{Formula, Label, Row, Pattern, Source, Stage, From, Declaration, Text}
 

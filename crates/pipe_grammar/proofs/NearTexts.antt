@@ -6,7 +6,7 @@ use Rattle.pipe_grammar.specs.Bounds.{depth_of}
 use Rattle.pipe_grammar.specs.Continuations.{Continuation, End, Word, ALabel, AKind, AnExpression, ARow, MoreParts, APattern, MoreNames, Nested, AStream, MoreStages, AStage, ATerminal, MoreDeclarations, expression, folding, ending, SourceForm, ArrayForm, RangeForm, UnfoldForm, ZipForm, StageForm, MapForm, FilterForm, TakeWhileForm, TakeForm, DropForm, ScanForm, FlatMapForm, TerminalForm, FoldForm, PrintForm, source_form, stage_form, terminal_form, declaration_form, single_row, braced_row, single_pattern, braced_pattern, Lead, Names, Separates, Bars, Braces, Declares, IsInt, BeginsSource, BeginsStage, BeginsTerminal, lead_of, is_separator, named, of_kind, moved, braced, listed_on, source_begun, stage_begun, terminal_begun, declared_on, barred, inside, outside, step, is_near}
 use Rattle.pipe_grammar.specs.Depths.{least_of, near_of}
 use Rattle.pipe_grammar.specs.Machine as machine
-use Rattle.pipe_grammar.specs.Machine.{Need, Goes, Leaves, Stuck, at_most}
+use Rattle.pipe_grammar.specs.Machine.{Need, Goes, Leaves, Stuck}
 use Rattle.pipe_grammar.specs.Tokens.{What, Tok}
 use Rattle.pipe_grammar.specs.TreeCopies.{listed}
 use Rattle.pipe_grammar.specs.Trees.{Formula, Row, Pattern, Stream, From, Source, Array, Range, Unfold, Zip, Stage, Map, Filter, TakeWhile, Take, Drop, Scan, FlatMap, Terminal, Fold, Print, Declaration, Text}

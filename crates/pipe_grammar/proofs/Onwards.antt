@@ -9,7 +9,7 @@ use Rattle.pipe_grammar.specs.Bounds.{depth_of, stages_depth, stages_nesting}
 use Rattle.pipe_grammar.specs.Continuations.{Continuation, End, Word, ALabel, AKind, AnExpression, ARow, MoreParts, APattern, MoreNames, Nested, AStream, MoreStages, AStage, ATerminal, MoreDeclarations, expression, ending, SourceForm, StageForm, TerminalForm, source_form, stage_form, terminal_form, declaration_form, single_row, braced_row, single_pattern, braced_pattern, Lead, Separates, Bars, Braces, BeginsSource, BeginsStage, BeginsTerminal, lead_of, moved, braced, stage_begun, barred, step}
 use Rattle.pipe_grammar.specs.Grammar.{IsStream, IsSource, AreStages, AreDeclared}
 use Rattle.pipe_grammar.specs.Machine as machine
-use Rattle.pipe_grammar.specs.Machine.{Need, Goes, Leaves, start_of, started}
+use Rattle.pipe_grammar.specs.Machine.{Need, Goes, Leaves, start_of}
 use Rattle.pipe_grammar.specs.Tokens.{What, Named, Key, Sym, Tok, tok}
 use Rattle.pipe_grammar.specs.TreeCopies.{listed}
 use Rattle.pipe_grammar.specs.Trees.{Formula, Label, Row, Pattern, Stream, From, Source, Stage, Stages, Nil, Cons, Terminal, Declaration, Text}

@@ -1,6 +1,6 @@
 -- That what the reader of whole texts makes of tokens, and the counts of its tree, are the answer.
-use Rattle.std.proofs.Common.{◌≡◌, ℕ, ◌≤◌, List, length, subst}
-use Rattle.std.specs.Prelude.{Result, Ok, Err}
+use Rattle.std.proofs.Common.{◌≡◌, ℕ, List, subst}
+use Rattle.std.specs.Prelude.{Ok, Err}
 use Rattle.pipe_grammar.specs.declared.fault.ParseFault.{ParseFault}
 use Rattle.pipe_grammar.specs.declared.fault.ParseFault.TheVariants as fault
 use Rattle.pipe_grammar.specs.Continuations.{texts, read_text}

@@ -1,5 +1,5 @@
 -- How readings of forms are put together.
-use Rattle.std.proofs.Common.{◌≡◌, ℕ, ◌≤◌, List, [], ◌∷◌, length, refl, sym, ◌∙◌, ap, subst, arith}
+use Rattle.std.proofs.Common.{◌≡◌, ℕ, List, [], ◌∷◌, length, refl, sym, ◌∙◌, ap, subst, arith}
 use Rattle.std.specs.Prelude.{Result, Ok, Err, IsErr}
 use Rattle.std.specs.Result.{IsErrAnd}
 use Rattle.pipe_grammar.specs.declared.fault.ParseFault.{ParseFault}
@@ -8,7 +8,7 @@ use Rattle.pipe_grammar.specs.declared.reading.reader.Reader.{Reader}
 use Rattle.pipe_grammar.specs.declared.reading.separator.Separator.{Separator}
 use Rattle.pipe_grammar.specs.Continuations.{Continuation, Word, Nested, read_from}
 use Rattle.pipe_grammar.specs.Readers.{GoesOn, Starts, copied, end_of, left_of, word}
-use Rattle.pipe_grammar.specs.Reads.{Form, IsCalm, Passes, Stops, Reads}
+use Rattle.pipe_grammar.specs.Reads.{Form, IsCalm, Passes, Reads}
 use Rattle.pipe_grammar.specs.Tokens.{Tok}
 
 -- reading the form where the old reader is comes to the next form where the new one is

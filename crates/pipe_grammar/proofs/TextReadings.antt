@@ -1,5 +1,5 @@
 -- How the readings of the parts of a text make that of the whole.
-use Rattle.std.proofs.Common.{◌≡◌, ℕ, List, [], ◌∷◌, refl, sym, ◌∙◌, ap, subst, Bool, true, false}
+use Rattle.std.proofs.Common.{◌≡◌, ℕ, List, [], ◌∷◌, refl, sym, ◌∙◌, ap, subst, true, false}
 use Rattle.std.specs.Prelude.{Result, Ok, Err}
 use Rattle.pipe_grammar.specs.declared.fault.ParseFault.{ParseFault}
 use Rattle.pipe_grammar.specs.declared.fault.ParseFault.TheVariants as fault

@@ -1,5 +1,5 @@
 -- What the counts of a text are answered with.
-use Rattle.std.specs.Prelude.{ℕ, ◌≤◌, length, Result, Ok, Err}
+use Rattle.std.specs.Prelude.{◌≤◌, length, Result, Ok, Err}
 use Rattle.pipe_grammar.specs.declared.fault.ParseFault.{ParseFault}
 use Rattle.pipe_grammar.specs.declared.fault.ParseFault.TheVariants as fault
 use Rattle.pipe_grammar.specs.Bounds.{text_inputs, text_ops, text_heads}

@@ -1,9 +1,9 @@
 -- Whole texts as forms, and what the tokens of one are read as.
-use Rattle.std.specs.Prelude.{◌≡◌, ℕ, List, [], Result, Ok, Err}
+use Rattle.std.specs.Prelude.{◌≡◌, ℕ, List, [], Ok, Err}
 use Rattle.pipe_lexer.specs.declared.operator.InputKind.{InputKind}
 use Rattle.pipe_grammar.specs.declared.fault.ParseFault.TheVariants as fault
 use Rattle.pipe_grammar.specs.declared.tree.TTerminal.{TTerminal}
-use Rattle.pipe_grammar.specs.Continuations.{Continuation, ATerminal, MoreDeclarations, read_text}
+use Rattle.pipe_grammar.specs.Continuations.{ATerminal, MoreDeclarations, read_text}
 use Rattle.pipe_grammar.specs.Exactness.{Outcome, Read, Syntax, TooDeep}
 use Rattle.pipe_grammar.specs.Parsing.{Answer, place_or_end}
 use Rattle.pipe_grammar.specs.Reads.{Form}

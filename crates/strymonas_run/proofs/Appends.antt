@@ -6,7 +6,6 @@ use Rattle.strm_num.proofs.Lists.{drop_at}
 use Rattle.strm_num.proofs.Truths.{both_true}
 use Rattle.list_denotation.specs.declared.expr.Expr.{Expr}
 use Rattle.list_denotation.specs.Copies.{term_of, terms_of}
-use Rattle.list_denotation.specs.Typing.{is_bound, all_bound}
 use Rattle.strymonas_run.specs.declared.loop_ir.syntax.Stmt.{Stmt, the_lemmas}
 use Rattle.strymonas_run.specs.declared.loop_ir.syntax.Stmt.TheVariants as stmt
 use Rattle.strymonas_run.specs.declared.loop_ir.syntax.T.{T}
@@ -14,8 +13,8 @@ use Rattle.strymonas_run.specs.declared.loop_ir.syntax.W.{W}
 use Rattle.strymonas_run.specs.declared.loop_ir.syntax.W.TheVariants as w
 use Rattle.strymonas_run.specs.Statements.{Var, Statement, Set, Read, Loop, Emit, EndRow, Block, Nil, Cons, join}
 use Rattle.strymonas_run.specs.StatementCopies.{operand_of, test_of, statement_of, block_of}
-use Rattle.strymonas_run.specs.Emission.{operand_for, assignments, variables_from, print_block}
-use Rattle.strymonas_run.proofs.Typed.{typed_bound, typed_few}
+use Rattle.strymonas_run.specs.Emission.{operand_for, assignments, variables_from, is_polynomial, are_polynomials, print_block}
+use Rattle.strymonas_run.proofs.Typed.{typed_chain, typed_few, printed_finish}
 
 pub terms_of_length : (es : List Expr) → length (terms_of es) ≡ length es
 terms_of_length [] = refl
@@ -53,13 +52,13 @@ push_front : (ss : List Stmt) (s : Stmt) (t : Statement) (rest : Block) → stat
 push_front ss s t rest e = ap (λ b. join b rest) (block_push ss s) ∙ join_join (block_of ss) (Cons (statement_of s) Nil) rest ∙ ap (λ u. join (block_of ss) (Cons u rest)) e
 
 -- ---- the words of a row
-pub bound_at : (n : ℕ) (es : List Expr) (i : ℕ) (e : Expr) → IsTrue (all_bound n (terms_of es)) → slice_get es i ≡ Some e → IsTrue (is_bound n (term_of e))
-bound_at n [] i e h g = absurd cc
-bound_at n (x ∷ es) zero e h g =
+pub polynomial_at : (n : ℕ) (es : List Expr) (i : ℕ) (e : Expr) → IsTrue (are_polynomials n (terms_of es)) → slice_get es i ≡ Some e → IsTrue (is_polynomial n (term_of e))
+polynomial_at n [] i e h g = absurd cc
+polynomial_at n (x ∷ es) zero e h g =
     let same : x ≡ e = cc in
-    ap (λ y. is_bound n (term_of y)) (sym same) ∙ (both_true (is_bound n (term_of x)) (all_bound n (terms_of es)) h).0
-bound_at n (x ∷ es) (suc i) e h g =
-    bound_at n es i e (both_true (is_bound n (term_of x)) (all_bound n (terms_of es)) h).1 g
+    ap (λ y. is_polynomial n (term_of y)) (sym same) ∙ (both_true (is_polynomial n (term_of x)) (are_polynomials n (terms_of es)) h).0
+polynomial_at n (x ∷ es) (suc i) e h g =
+    polynomial_at n es i e (both_true (is_polynomial n (term_of x)) (are_polynomials n (terms_of es)) h).1 g
 
 pub assign_step : (ss : List Stmt) (es : List Expr) (vars : List ℕ) (next i : ℕ) (e : Expr) (x : W) → slice_get es i ≡ Some e → operand_of x ≡ operand_for (term_of e) vars → join (block_of (ss ++ stmt.Set (next + i) x ∷ [])) (assignments (terms_of (drop (i + 1) es)) vars (next + (i + 1))) ≡ join (block_of ss) (assignments (terms_of (drop i es)) vars (next + i))
 assign_step ss es vars next i e x h g =
@@ -73,7 +72,7 @@ pub assign_end : (ss : List Stmt) (es : List Expr) (vars : List ℕ) (next i : �
 assign_end ss es vars next i le =
     ap (λ l. join (block_of ss) (assignments (terms_of l) vars (next + i))) (drop_all i es le) ∙ join-nil (block_of ss)
 
-pub ruleset assign_steps = (bound_at, assign_step, assign_end, terms_of_length)
+pub ruleset assign_steps = (polynomial_at, assign_step, assign_end, terms_of_length)
 
 -- ---- variables
 pub from_step : (vars : List ℕ) (next last v : ℕ) → v < last → (vars ++ v ∷ []) ++ variables_from (v + 1) (last - (v + 1)) ≡ vars ++ variables_from v (last - v)
@@ -114,4 +113,4 @@ loop_step ss t body =
 
 pub ruleset row_steps = (read_step, join_join)
 
-pub ruleset turn_steps = (set_step, loop_step, join_join, typed_bound, typed_few)
+pub ruleset turn_steps = (set_step, loop_step, join_join, typed_chain, typed_few, printed_finish)

@@ -1,6 +1,6 @@
 -- The emitted program sees what the lists give: at n turns just what they give at n pulls.
 use Rattle.std.proofs.Common.{◌≡◌, inl, inr, ℕ, zero, suc, ◌+◌, ◌<◌, ◌≤◌, List, [], ◌∷◌, ◌++◌, length, map, Some, Bool, refl, sym, ap, ◌∙◌, subst, append_assoc, append-nil, length-append, arith}
-use Rattle.std.specs.Prelude.{slice_index, slice_get, slice_set, replicate}
+use Rattle.std.specs.Prelude.{slice_index, slice_get, slice_set, replicate, IsTrue}
 use Rattle.std.proofs.Math.Nat.{mod-eq_of_lt}
 use Rattle.std.proofs.Math.Seq.{get_or-append_seam}
 use Rattle.std.proofs.lemmas.Bool.{lt-ltb, le-ltb}
@@ -20,9 +20,10 @@ use Rattle.list_denotation.specs.Denotation.{denotation}
 use Rattle.list_denotation.specs.Observation.{Done, Going, Seen, printed, row_events, finished, observation}
 use Rattle.list_denotation.specs.Far.{Far}
 use Rattle.list_denotation.specs.Work.{row_count, work}
+use Rattle.strymonas_run.specs.Built.{is_built_finish}
 use Rattle.strymonas_run.specs.Statements.{Var, Len, Less, Nil}
 use Rattle.strymonas_run.specs.Meaning.{Outcome, Runs, Over, after, then_do, on_test, test_value, turns, run, seen, meaning}
-use Rattle.strymonas_run.specs.Emission.{IsBound, source_of, next_var, turn_block, routine_for}
+use Rattle.strymonas_run.specs.Emission.{IsChain, source_of, next_var, turn_block, routine_for}
 use Rattle.strymonas_run.proofs.Values.{row_at, items_of, denotation_is, work_is}
 use Rattle.strymonas_run.proofs.Joins.{after_nothing}
 use Rattle.strymonas_run.proofs.Turn.{turned, two_below}
@@ -51,7 +52,7 @@ printed_end : (n : ℕ) → printed (firsts n []) ≡ record { events = []; stan
 printed_end zero = refl
 printed_end (suc n) = refl
 
-module _ (inputs : List Input) (p : Pipeline) (bound : IsBound p.stream) (few : length (items_of p.stream inputs) ≤ 4194304) where
+module _ (inputs : List Input) (p : Pipeline) (chain : IsChain p.stream) (built : IsTrue (is_built_finish p.terminal)) (few : length (items_of p.stream inputs) ≤ 4194304) where
   abbrev items : List ℕ
   items = items_of p.stream inputs
 
@@ -79,7 +80,7 @@ module _ (inputs : List Input) (p : Pipeline) (bound : IsBound p.stream) (few : 
   turns_seen (x ∷ rest) before env (suc most) (suc left) split le index room =
       let inside : slice_index env 0 < length items = omega (arith, ap length split, length-append before (x ∷ rest), index) in
       let item : slice_get items (slice_index env 0) ≡ Some x = ap (slice_get items) index ∙ item_at items before x rest split in
-      let turn = turned inputs p env x bound item room in
+      let turn = turned inputs p env x chain built item room in
       let events = row_events (row_at p.stream x) [] in
       let longer : length (before ++ (x ∷ [])) ≡ length before + 1 = omega (arith, length-append before (x ∷ [])) in
       let next : slice_index turn.env' 0 ≡ length (before ++ (x ∷ [])) =
@@ -92,8 +93,9 @@ module _ (inputs : List Input) (p : Pipeline) (bound : IsBound p.stream) (few : 
       ∙ ap (λ (e : List Event). record { events = e; standing = (printed (firsts left (map (row_at p.stream) rest))).standing })
       (events_more (row_at p.stream x) (printed (firsts left (map (row_at p.stream) rest))).events)
 
-  finished_is : (t : Finish) (rows : Rows) → finished t rows ≡ printed rows
-  finished_is Print rows = refl
+  finished_is : (t : Finish) (rows : Rows) → IsTrue (is_built_finish t) → finished t inputs rows ≡ printed rows
+  finished_is Print rows is = refl
+  finished_is _ rows is = absurd cc
 
   pub meaning_is : (n : ℕ) → meaning (routine_for p) inputs n ≡ printed (firsts n (map (row_at p.stream) items))
   meaning_is n =
@@ -109,7 +111,8 @@ module _ (inputs : List Input) (p : Pipeline) (bound : IsBound p.stream) (few : 
       ∙ turns_seen items [] start n n refl (omega arith) (get_or-set_same zeros 0 0 0 inside) room
 
   pub observation_is : (n : ℕ) → observation p inputs n ≡ printed (firsts n (map (row_at p.stream) items))
-  observation_is n = finished_is p.terminal (denotation p.stream [] inputs n) ∙ ap printed (denotation_is p.stream inputs n)
+  observation_is n =
+      finished_is p.terminal (denotation p.stream [] inputs n) built ∙ ap printed (denotation_is p.stream inputs n chain)
 
 far_row : (r : List ℕ) (o u : Rows) → Far (printed o) (printed u) → Far (printed (Row r o)) (printed (Row r u))
 far_row r o u (inl e) = inl (ap (λ (s : Seen). record { events = row_events r s.events; standing = s.standing }) e)
@@ -144,16 +147,16 @@ few_items (input.Array items ∷ inputs) (kind.Int ∷ kinds) zero fits = absurd
 few_items (input.Int w ∷ inputs) (kind.Int ∷ kinds) zero fits = omega arith
 few_items (i ∷ inputs) (kind ∷ kinds) (suc k) fits = few_items inputs kinds k fits.1
 
-pub no_further : (p : Pipeline) → IsBound p.stream → (inputs : List Input) (n : ℕ) → Fits inputs p.inputs → Far (meaning (routine_for p) inputs n) (observation p inputs n)
-no_further p bound inputs n fits =
+pub no_further : (p : Pipeline) → IsChain p.stream → IsTrue (is_built_finish p.terminal) → (inputs : List Input) (n : ℕ) → Fits inputs p.inputs → Far (meaning (routine_for p) inputs n) (observation p inputs n)
+no_further p chain built inputs n fits =
     let few = few_items inputs p.inputs (source_of p.stream) fits in
-    inl (meaning_is inputs p bound few n ∙ sym (observation_is inputs p bound few n))
+    inl (meaning_is inputs p chain built few n ∙ sym (observation_is inputs p chain built few n))
 
-pub as_far : (p : Pipeline) → IsBound p.stream → (inputs : List Input) (n : ℕ) → Fits inputs p.inputs → Far (observation p inputs n) (meaning (routine_for p) inputs (work p inputs n))
-as_far p bound inputs n fits =
+pub as_far : (p : Pipeline) → IsChain p.stream → IsTrue (is_built_finish p.terminal) → (inputs : List Input) (n : ℕ) → Fits inputs p.inputs → Far (observation p inputs n) (meaning (routine_for p) inputs (work p inputs n))
+as_far p chain built inputs n fits =
     let few = few_items inputs p.inputs (source_of p.stream) fits in
     let rows = map (row_at p.stream) (items_of p.stream inputs) in
-    subst (λ (o : Seen). Far o (meaning (routine_for p) inputs (work p inputs n))) (sym (observation_is inputs p bound few n))
+    subst (λ (o : Seen). Far o (meaning (routine_for p) inputs (work p inputs n))) (sym (observation_is inputs p chain built few n))
     (subst (λ (u : Seen). Far (printed (firsts n rows)) u)
-    (ap (λ m. printed (firsts m rows)) (sym (work_is p.stream inputs n)) ∙ sym (meaning_is inputs p bound few (work p inputs n)))
+    (ap (λ m. printed (firsts m rows)) (sym (work_is p.stream inputs n chain)) ∙ sym (meaning_is inputs p chain built few (work p inputs n)))
     (one_more rows n))

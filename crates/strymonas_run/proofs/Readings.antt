@@ -1,6 +1,6 @@
 -- What bytes are, from what the steps of reading them gave. Each other reading of the bytes is one of
--- their tokens' answers and then one of their tree's, which are the only ones.
-use Rattle.std.proofs.Common.{◌≡◌, ℕ, ◌≤◌, List, length, Option, Some, None, Ok, Err, refl, sym, ap, ◌∙◌, subst}
+-- their tokens' answers, then one of their tree's, and then that of its kinds, which are the only ones.
+use Rattle.std.proofs.Common.{◌≡◌, ℕ, ◌≤◌, List, length, Ok, Err, refl, sym, ap, ◌∙◌, subst}
 use Rattle.std.specs.Prelude.{Result, IsErrAnd}
 use Rattle.pipe_lexer.specs.declared.token.Token.{Token}
 use Rattle.pipe_lexer.specs.declared.fault.LexFault.{LexFault}
@@ -14,35 +14,53 @@ use Rattle.pipe_grammar.specs.Tokens.{Tok, toks_of}
 use Rattle.pipe_grammar.specs.Grammar.{IsSentence}
 use Rattle.pipe_grammar.specs.Parsing as parsing
 use Rattle.pipe_grammar.specs.Parsing.{ParsesAs}
+use Rattle.pipe_types.specs.declared.fault.TypeFault.{TypeFault}
+use Rattle.pipe_types.specs.declared.fault.TypeFault.TheVariants as types
+use Rattle.pipe_types.specs.Checked.{Checked, IsOneUnlessRefused}
+use Rattle.pipe_types.specs.Checking.{check_of, IsTyped}
 use Rattle.list_denotation.specs.declared.program.Program.{Program}
+use Rattle.list_denotation.specs.Pipelines.{pipeline_of}
 use Rattle.list_denotation.specs.Terms.{Pipeline}
 use Rattle.strymonas_run.specs.declared.refusal.Refusal.{Refusal}
 use Rattle.strymonas_run.specs.declared.refusal.RefusalKind.{RefusalKind}
-use Rattle.strymonas_run.specs.declared.refusal.RefusalKind.TheVariants.{NotUtf8, BadChar, NumberTooLarge, Syntax, TooDeep, TooManyInputs, TooManyOps, TooManyNodes, Unbuilt}
+use Rattle.strymonas_run.specs.declared.refusal.RefusalKind.TheVariants.{NotUtf8, BadChar, NumberTooLarge, Syntax, TooDeep, TooManyInputs, TooManyOps, TooManyNodes, Unknown, Twice, Mismatch, WidthMismatch, TooWide, DivisionInOpening, NotArray, Unbuilt}
 use Rattle.strymonas_run.specs.declared.refusal.TextFault.{TextFault}
 use Rattle.strymonas_run.specs.declared.refusal.TextFault.TheVariants.{Refused, NoMemory}
-use Rattle.strymonas_run.specs.FirstForm.{pipeline_for}
-use Rattle.strymonas_run.specs.Refusals.{HasFault, IsRefused}
-use Rattle.strymonas_run.specs.Reading.{Reading, ReadsAs, refused, of_tokens, of_tree, unbuilt, IsBuilt, FailsAs, IsRead}
+use Rattle.strymonas_run.specs.PipelineFile.{HasTree}
+use Rattle.strymonas_run.specs.Refusals.{HasFault, HasTypeFault, IsRefused}
+use Rattle.strymonas_run.specs.Reading.{Reading, ReadsAs, IsReading, refused, of_tokens, of_tree, of_kinds, FailsAs, IsRead}
 
 abbrev at_place : RefusalKind → ℕ → Refusal
 at_place kind at = record { kind = kind; at = at }
 
 -- the reason that a fault is
-abbrev IsReason : TextFault → Reading → Type 0
+abbrev pub IsReason : TextFault → Reading → Type 0
 IsReason fault reading = (r : Refusal) × (fault ≡ Refused r) × (reading ≡ Err r)
+
+-- what is wrong with the bytes, or the pipeline of their tree, however many bytes there are
+abbrev pub Says : List ℕ → Reading → Type 0
+Says src (Ok p) = (t : Text) × HasTree src t × IsTyped t p
+Says src (Err r) = IsRefused src r
+
+says : (src : List ℕ) (reading : Reading) → ReadsAs src reading → Says src reading
+says src (Ok p) h = (h.tree, h.text, h.typed)
+says src (Err r) h = h
+
+-- the bytes are this, and say nothing else
+reading_is : (src : List ℕ) (reading : Reading) → ReadsAs src reading → ((other : Reading) → Says src other → other ≡ reading) → IsReading src reading
+reading_is src reading reads only = record { reads = reads; only = λ other h. only other (says src other h) }
 
 -- ---- tokens
 
 -- what the tokens are answered with goes with this reading
-abbrev GoesWithTokens : lexing.Answer → Reading → Type 0
+abbrev pub GoesWithTokens : lexing.Answer → Reading → Type 0
 GoesWithTokens (Ok toks) reading = Unit {0}
 GoesWithTokens (Err e) reading = IsReason (of_tokens e) reading
 
-record TokensOf (src : List ℕ) (reading : Reading) : Type 0 where
-  answer : lexing.Answer
-  lexes : LexesAs src answer
-  goes_with : GoesWithTokens answer reading
+pub record TokensOf (src : List ℕ) (reading : Reading) : Type 0 where
+  pub answer : lexing.Answer
+  pub lexes : LexesAs src answer
+  pub goes_with : GoesWithTokens answer reading
 
 tokens_of_text : (src : List ℕ) (toks : List Token) (reading : Reading) → IsLexed src toks → TokensOf src reading
 tokens_of_text src toks reading lexed = record { answer = Ok toks; lexes = lexed; goes_with = tt }
@@ -60,14 +78,21 @@ tokens_of_refused src TooDeep at h = tokens_of_text src h.toks _ h.lexed
 tokens_of_refused src TooManyInputs at h = tokens_of_text src h.toks _ h.lexed
 tokens_of_refused src TooManyOps at h = tokens_of_text src h.toks _ h.lexed
 tokens_of_refused src TooManyNodes at h = tokens_of_text src h.toks _ h.lexed
-tokens_of_refused src Unbuilt at h = tokens_of_text src h.0.toks _ h.0.lexed
+tokens_of_refused src Unknown at h = tokens_of_text src h.text.toks _ h.text.lexed
+tokens_of_refused src Twice at h = tokens_of_text src h.text.toks _ h.text.lexed
+tokens_of_refused src Mismatch at h = tokens_of_text src h.text.toks _ h.text.lexed
+tokens_of_refused src WidthMismatch at h = tokens_of_text src h.text.toks _ h.text.lexed
+tokens_of_refused src TooWide at h = tokens_of_text src h.text.toks _ h.text.lexed
+tokens_of_refused src DivisionInOpening at h = tokens_of_text src h.text.toks _ h.text.lexed
+tokens_of_refused src NotArray at h = tokens_of_text src h.text.toks _ h.text.lexed
+tokens_of_refused src Unbuilt at h = absurd h
 
-tokens_of : (src : List ℕ) (reading : Reading) → ReadsAs src reading → TokensOf src reading
-tokens_of src (Ok p) h = tokens_of_text src h.toks (Ok p) h.lexed
+pub tokens_of : (src : List ℕ) (reading : Reading) → Says src reading → TokensOf src reading
+tokens_of src (Ok p) h = tokens_of_text src h.1.toks (Ok p) h.1.lexed
 tokens_of src (Err r) h = tokens_of_refused src r.kind r.at h
 
 -- nothing else than this is answered for the tokens
-abbrev OnlyTokens : List ℕ → lexing.Answer → Type 0
+abbrev pub OnlyTokens : List ℕ → lexing.Answer → Type 0
 OnlyTokens src answer = (other : lexing.Answer) → LexesAs src other → lexing.IsSameUnlessRefused other answer
 
 same_tokens : (a b : lexing.Answer) → (a ≡ Err lex.NoMemory → ⊥) → (b ≡ Err lex.NoMemory → ⊥) → lexing.IsSameUnlessRefused a b → a ≡ b
@@ -89,35 +114,36 @@ fault_is lex.NoMemory r is src lexes = absurd cc
 has_fault : (e : LexFault) (r : Refusal) → of_tokens e ≡ Refused r → e ≡ lex.NoMemory → ⊥
 has_fault e r is gone = cc (ap of_tokens gone, is)
 
--- where the tokens have a fault, the bytes are refused for it
+-- where the tokens have a fault, the bytes say nothing else
+pub only_fault : (src : List ℕ) (e : LexFault) (r : Refusal) → OnlyTokens src (Err e) → of_tokens e ≡ Refused r → (other : Reading) → Says src other → other ≡ Err r
+only_fault src e r only is other h =
+    let tokens = tokens_of src other h in
+    let same = same_tokens tokens.answer (Err e) (some_tokens tokens.answer other tokens.goes_with) (λ none. has_fault e r is cc) (only tokens.answer tokens.lexes) in
+    let reason = subst (λ (a : lexing.Answer). GoesWithTokens a other) same tokens.goes_with in
+    let reason_is : reason.0 ≡ r = cc (reason.1, is) in
+    reason.2 ∙ ap (λ (s : Refusal). Err s) reason_is
+
+-- and are refused for it
 pub faulty_tokens : (src : List ℕ) (e : LexFault) (f : TextFault) → LexesAs src (Err e) → OnlyTokens src (Err e) → of_tokens e ≡ f → FailsAs src f
 faulty_tokens src e NoMemory lexes only is = tt
-faulty_tokens src e (Refused r) lexes only is = record {
-  reads = fault_is e r is src lexes;
-  only = λ other h.
-      let tokens = tokens_of src other h in
-      let same = same_tokens tokens.answer (Err e) (some_tokens tokens.answer other tokens.goes_with) (λ none. has_fault e r is cc) (only tokens.answer tokens.lexes) in
-      let reason = subst (λ (a : lexing.Answer). GoesWithTokens a other) same tokens.goes_with in
-      let reason_is : reason.0 ≡ r = cc (reason.1, is) in
-      reason.2 ∙ ap (λ (s : Refusal). Err s) reason_is;
-}
+faulty_tokens src e (Refused r) lexes only is = reading_is src (Err r) (fault_is e r is src lexes) (only_fault src e r only is)
 
--- ---- trees
+-- ---- trees and their kinds
 
--- the reading of a tree, by the pipeline that it stands for
-abbrev reading_of : Option Pipeline → Reading
-reading_of None = Err unbuilt
-reading_of (Some p) = Ok p
+-- what the kinds of a tree are answered with goes with this reading
+abbrev pub GoesWithKinds : Checked Pipeline → Reading → Type 0
+GoesWithKinds (Ok p) reading = reading ≡ Ok p
+GoesWithKinds (Err f) reading = IsReason (of_kinds f) reading
 
 -- what the tree is answered with goes with this reading
-abbrev GoesWithTree : parsing.Answer → Reading → Type 0
-GoesWithTree (Ok t) reading = reading ≡ reading_of (pipeline_for t)
+abbrev pub GoesWithTree : parsing.Answer → Reading → Type 0
+GoesWithTree (Ok t) reading = GoesWithKinds (check_of t) reading
 GoesWithTree (Err e) reading = IsReason (of_tree e) reading
 
-record TreeOf (end : ℕ) (toks : List Tok) (reading : Reading) : Type 0 where
-  answer : parsing.Answer
-  parses : ParsesAs end toks answer
-  goes_with : GoesWithTree answer reading
+pub record TreeOf (end : ℕ) (toks : List Tok) (reading : Reading) : Type 0 where
+  pub answer : parsing.Answer
+  pub parses : ParsesAs end toks answer
+  pub goes_with : GoesWithTree answer reading
 
 tree_of_fault : (end : ℕ) (toks : List Tok) (kind : RefusalKind) (at : ℕ) (e : ParseFault) → ParsesAs end toks (Err e) → of_tree e ≡ refused kind at → TreeOf end toks (Err (at_place kind at))
 tree_of_fault end toks kind at e parses is =
@@ -138,6 +164,27 @@ some_tree a reading goes e = let r = subst (λ (b : parsing.Answer). GoesWithTre
 has_tree_fault : (e : ParseFault) (r : Refusal) → of_tree e ≡ Refused r → e ≡ parse.NoMemory → ⊥
 has_tree_fault e r is gone = cc (ap of_tree gone, is)
 
+-- a fault of kinds that the code names is the one that there is
+kinds_fault : (e : TypeFault) (c : Checked Pipeline) (r : Refusal) → of_kinds e ≡ Refused r → IsOneUnlessRefused pipeline_of (Err e) c → c ≡ Err e
+kinds_fault types.NoMemory c r is h = absurd cc
+kinds_fault e c r is h = h
+
+type_fault_is : (src : List ℕ) (e : TypeFault) (r : Refusal) → of_kinds e ≡ Refused r → HasTypeFault src e → IsRefused src r
+type_fault_is src (types.Unknown at) r is h = let e : at_place Unknown at ≡ r = cc in subst (IsRefused src) e h
+type_fault_is src (types.Twice at) r is h = let e : at_place Twice at ≡ r = cc in subst (IsRefused src) e h
+type_fault_is src (types.Mismatch at) r is h = let e : at_place Mismatch at ≡ r = cc in subst (IsRefused src) e h
+type_fault_is src (types.WidthMismatch at) r is h = let e : at_place WidthMismatch at ≡ r = cc in subst (IsRefused src) e h
+type_fault_is src (types.TooWide at) r is h = let e : at_place TooWide at ≡ r = cc in subst (IsRefused src) e h
+type_fault_is src (types.DivisionInOpening at) r is h = let e : at_place DivisionInOpening at ≡ r = cc in subst (IsRefused src) e h
+type_fault_is src (types.NotArray at) r is h = let e : at_place NotArray at ≡ r = cc in subst (IsRefused src) e h
+type_fault_is src types.NoMemory r is h = absurd cc
+
+-- two readings that go with the same kinds are one
+pub same_kinds : (c : Checked Pipeline) (a b : Reading) → GoesWithKinds c a → GoesWithKinds c b → a ≡ b
+same_kinds (Ok p) a b f g = f ∙ sym g
+same_kinds (Err e) a b f g =
+    let same : f.0 ≡ g.0 = cc (f.1, g.1) in f.2 ∙ ap (λ (r : Refusal). Err r) same ∙ sym g.2
+
 module _ (src : List ℕ) (toks : List Token) (lexed : IsLexed src toks) (only_tokens : OnlyTokens src (Ok toks)) where
   abbrev whats : List Tok
   whats = toks_of src toks
@@ -148,6 +195,19 @@ module _ (src : List ℕ) (toks : List Token) (lexed : IsLexed src toks) (only_t
   fault_here : (e : ParseFault) → HasFault src e → ParsesAs (length src) whats (Err e)
   fault_here e h = subst (λ ts. ParsesAs (length src) (toks_of src ts) (Err e)) (same_toks h.toks h.lexed) h.parses
 
+  parses_here : (t : Text) → HasTree src t → ParsesAs (length src) whats (Ok t)
+  parses_here t h = (subst (λ ts. IsSentence (toks_of src ts) t) (same_toks h.toks h.lexed) h.sentence, h.bounded)
+
+  tree_here : (t : Text) → ParsesAs (length src) whats (Ok t) → HasTree src t
+  tree_here t parses = record { toks = toks; lexed = lexed; sentence = parses.0; bounded = parses.1 }
+
+  tree_of_kinds : (kind : RefusalKind) (at : ℕ) (e : TypeFault) → HasTypeFault src e → of_kinds e ≡ refused kind at → TreeOf (length src) whats (Err (at_place kind at))
+  tree_of_kinds kind at e h is = record {
+    answer = Ok h.tree;
+    parses = parses_here h.tree h.text;
+    goes_with = subst (λ (c : Checked Pipeline). GoesWithKinds c (Err (at_place kind at))) (sym h.checks) (at_place kind at, is, refl);
+  }
+
   tree_of_refused : (kind : RefusalKind) (at : ℕ) → IsRefused src (at_place kind at) → TreeOf (length src) whats (Err (at_place kind at))
   tree_of_refused NotUtf8 at h = let e : lexing.IsSameUnlessRefused (Err (lex.NotUtf8 at)) (Ok toks) = only_tokens (Err (lex.NotUtf8 at)) h in absurd cc
   tree_of_refused BadChar at h = let e : lexing.IsSameUnlessRefused (Err (lex.BadChar at)) (Ok toks) = only_tokens (Err (lex.BadChar at)) h in absurd cc
@@ -157,17 +217,20 @@ module _ (src : List ℕ) (toks : List Token) (lexed : IsLexed src toks) (only_t
   tree_of_refused TooManyInputs at h = tree_of_fault (length src) whats TooManyInputs at (parse.TooManyInputs at) (fault_here (parse.TooManyInputs at) h) refl
   tree_of_refused TooManyOps at h = tree_of_fault (length src) whats TooManyOps at (parse.TooManyOps at) (fault_here (parse.TooManyOps at) h) refl
   tree_of_refused TooManyNodes at h = tree_of_fault (length src) whats TooManyNodes at (parse.TooManyNodes at) (fault_here (parse.TooManyNodes at) h) refl
-  tree_of_refused Unbuilt at h = record {
-    answer = Ok h.0.tree;
-    parses = (subst (λ ts. IsSentence (toks_of src ts) h.0.tree) (same_toks h.0.toks h.0.lexed) h.0.sentence, h.0.bounded);
-    goes_with = ap (λ n. Err (at_place Unbuilt n)) h.1 ∙ ap reading_of (sym h.0.not_built);
-  }
+  tree_of_refused Unknown at h = tree_of_kinds Unknown at (types.Unknown at) h refl
+  tree_of_refused Twice at h = tree_of_kinds Twice at (types.Twice at) h refl
+  tree_of_refused Mismatch at h = tree_of_kinds Mismatch at (types.Mismatch at) h refl
+  tree_of_refused WidthMismatch at h = tree_of_kinds WidthMismatch at (types.WidthMismatch at) h refl
+  tree_of_refused TooWide at h = tree_of_kinds TooWide at (types.TooWide at) h refl
+  tree_of_refused DivisionInOpening at h = tree_of_kinds DivisionInOpening at (types.DivisionInOpening at) h refl
+  tree_of_refused NotArray at h = tree_of_kinds NotArray at (types.NotArray at) h refl
+  tree_of_refused Unbuilt at h = absurd h
 
-  tree_of : (reading : Reading) → ReadsAs src reading → TreeOf (length src) whats reading
+  pub tree_of : (reading : Reading) → Says src reading → TreeOf (length src) whats reading
   tree_of (Ok p) h = record {
-    answer = Ok h.tree;
-    parses = (subst (λ ts. IsSentence (toks_of src ts) h.tree) (same_toks h.toks h.lexed) h.sentence, h.bounded);
-    goes_with = ap reading_of (sym h.stands_for);
+    answer = Ok h.0;
+    parses = parses_here h.0 h.1;
+    goes_with = subst (λ (c : Checked Pipeline). GoesWithKinds c (Ok p)) (sym h.2) refl;
   }
   tree_of (Err r) h = tree_of_refused r.kind r.at h
 
@@ -179,36 +242,41 @@ module _ (src : List ℕ) (toks : List Token) (lexed : IsLexed src toks) (only_t
   tree_fault_is (parse.TooManyNodes at) r is h = let e : at_place TooManyNodes at ≡ r = cc in subst (IsRefused src) e (record { toks = toks; lexed = lexed; parses = h })
   tree_fault_is parse.NoMemory r is h = absurd cc
 
-  -- where the tree has a fault, the bytes are refused for it
+  -- where the tree has a fault, the bytes say nothing else
+  pub only_tree_fault : (e : ParseFault) (r : Refusal) → OnlyTree (length src) whats (Err e) → of_tree e ≡ Refused r → (other : Reading) → Says src other → other ≡ Err r
+  only_tree_fault e r only is other h =
+      let tree = tree_of other h in
+      let same = same_tree tree.answer (Err e) (some_tree tree.answer other tree.goes_with) (λ none. has_tree_fault e r is cc) (only tree.answer tree.parses) in
+      let reason = subst (λ (a : parsing.Answer). GoesWithTree a other) same tree.goes_with in
+      let reason_is : reason.0 ≡ r = cc (reason.1, is) in
+      reason.2 ∙ ap (λ (s : Refusal). Err s) reason_is
+
+  -- and are refused for it
   pub faulty_tree : (e : ParseFault) (f : TextFault) → ParsesAs (length src) whats (Err e) → OnlyTree (length src) whats (Err e) → of_tree e ≡ f → FailsAs src f
   faulty_tree e NoMemory parses only is = tt
-  faulty_tree e (Refused r) parses only is = record {
-    reads = tree_fault_is e r is parses;
-    only = λ other h.
-        let tree = tree_of other h in
-        let same = same_tree tree.answer (Err e) (some_tree tree.answer other tree.goes_with) (λ none. has_tree_fault e r is cc) (only tree.answer tree.parses) in
-        let reason = subst (λ (a : parsing.Answer). GoesWithTree a other) same tree.goes_with in
-        let reason_is : reason.0 ≡ r = cc (reason.1, is) in
-        reason.2 ∙ ap (λ (s : Refusal). Err s) reason_is;
-  }
+  faulty_tree e (Refused r) parses only is = reading_is src (Err r) (tree_fault_is e r is parses) (only_tree_fault e r only is)
 
-  only_reading : (t : Text) → OnlyTree (length src) whats (Ok t) → (other : Reading) → ReadsAs src other → other ≡ reading_of (pipeline_for t)
-  only_reading t only other h =
+  -- where there is a tree, all that the bytes say goes with its kinds
+  pub goes_with_kinds : (t : Text) → OnlyTree (length src) whats (Ok t) → (other : Reading) → Says src other → GoesWithKinds (check_of t) other
+  goes_with_kinds t only other h =
       let tree = tree_of other h in
       let same = same_tree tree.answer (Ok t) (some_tree tree.answer other tree.goes_with) (λ none. cc) (only tree.answer tree.parses) in
       subst (λ (a : parsing.Answer). GoesWithTree a other) same tree.goes_with
 
-  -- where the tokens have a tree, the bytes are what that stands for, or unbuilt
-  pub read_tree : (t : Text) (result : Result Program TextFault) → length src ≤ 65536 → ParsesAs (length src) whats (Ok t) → OnlyTree (length src) whats (Ok t) → IsBuilt t result → IsRead src result
-  read_tree t (Ok program) within parses only built = record {
-    reads = record { within = within; toks = toks; tree = t; lexed = lexed; sentence = parses.0; bounded = parses.1; stands_for = built };
-    only = λ other h. only_reading t only other h ∙ ap reading_of built;
-  }
-  read_tree t (Err (Refused r)) within parses only built = record {
-    reads = subst (IsRefused src) (sym built.1) (record { toks = toks; tree = t; lexed = lexed; sentence = parses.0; bounded = parses.1; not_built = built.0 }, refl);
-    only = λ other h. only_reading t only other h ∙ ap reading_of built.0 ∙ ap (λ (s : Refusal). Err s) (sym built.1);
-  }
-  read_tree t (Err NoMemory) within parses only built = tt
+  -- where its kinds have a fault, the bytes are refused for it
+  pub faulty_kinds : (t : Text) (e : TypeFault) (f : TextFault) → ParsesAs (length src) whats (Ok t) → OnlyTree (length src) whats (Ok t) → IsOneUnlessRefused pipeline_of (Err e) (check_of t) → of_kinds e ≡ f → FailsAs src f
+  faulty_kinds t e NoMemory parses only checks is = tt
+  faulty_kinds t e (Refused r) parses only checks is =
+      let here : check_of t ≡ Err e = kinds_fault e (check_of t) r is checks in
+      reading_is src (Err r) (type_fault_is src e r is (record { tree = t; text = tree_here t parses; checks = here }))
+      (λ other h. same_kinds (Err e) other (Err r) (subst (λ (c : Checked Pipeline). GoesWithKinds c other) here (goes_with_kinds t only other h)) (r, is, refl))
+
+  -- and where it has kinds, they are the pipeline that it stands for
+  pub read_kinds : (t : Text) (program : Program) → length src ≤ 65536 → ParsesAs (length src) whats (Ok t) → OnlyTree (length src) whats (Ok t) → IsOneUnlessRefused pipeline_of (Ok program) (check_of t) → IsRead src (Ok program)
+  read_kinds t program within parses only checks =
+      let here : check_of t ≡ Ok (pipeline_of program) = checks in
+      reading_is src (Ok (pipeline_of program)) (record { within = within; tree = t; text = tree_here t parses; typed = here })
+      (λ other h. subst (λ (c : Checked Pipeline). GoesWithKinds c other) here (goes_with_kinds t only other h))
 
 -- ---- the code's answers
 

@@ -8,10 +8,10 @@ use Rattle.list_denotation.specs.declared.event.Event.TheVariants as event
 use Rattle.list_denotation.specs.declared.input.Input.{Input}
 use Rattle.list_denotation.specs.Terms.{Term, Pipe, Array, Map, Finish, Print, Pipeline}
 use Rattle.list_denotation.specs.Observation.{row_events}
-use Rattle.list_denotation.specs.Typing.{is_bound, all_bound}
+use Rattle.strymonas_run.specs.Built.{is_built_finish}
 use Rattle.strymonas_run.specs.Statements.{Block, Nil, join}
 use Rattle.strymonas_run.specs.Meaning.{Runs, after, then_do, on_value, item_of, run}
-use Rattle.strymonas_run.specs.Emission.{IsBound, assignments, variables_from, next_var, row_vars, row_block, print_block, finish_block, step_block, turn_block}
+use Rattle.strymonas_run.specs.Emission.{IsChain, is_polynomial, are_polynomials, assignments, variables_from, next_var, row_vars, row_block, print_block, finish_block, step_block, turn_block}
 use Rattle.strymonas_run.proofs.Values.{word_of, words_of, row_at, items_of}
 use Rattle.strymonas_run.proofs.Joins.{after_nothing, goes_on}
 use Rattle.strymonas_run.proofs.Variables.{words_at, AllBelow, SameBelow, words_same, below_more, from_below, set_below, operand_is}
@@ -24,11 +24,11 @@ pub record Puts (inputs : List Input) (ss : Block) (env : List ℕ) (n : ℕ) (v
   pub below : SameBelow n env env'
   pub holds : words_at env' vars ≡ words
 
-pub assigned : (inputs : List Input) (es : List Term) (vars : List ℕ) (next : ℕ) (env : List ℕ) → IsTrue (all_bound (length vars) es) → AllBelow next vars → next + length es ≤ length env → Puts inputs (assignments es vars next) env next (variables_from next (length es)) (words_of es (words_at env vars))
-assigned inputs [] vars next env bound below room =
+pub assigned : (inputs : List Input) (es : List Term) (vars : List ℕ) (next : ℕ) (env : List ℕ) → IsTrue (are_polynomials (length vars) es) → AllBelow next vars → next + length es ≤ length env → Puts inputs (assignments es vars next) env next (variables_from next (length es)) (words_of es (words_at env vars))
+assigned inputs [] vars next env built below room =
     record { env' = env; runs = λ left. refl; same = refl; below = λ v lt. refl; holds = refl }
-assigned inputs (e ∷ es) vars next env bound below room =
-    let parts = both_true (is_bound (length vars) e) (all_bound (length vars) es) bound in
+assigned inputs (e ∷ es) vars next env built below room =
+    let parts = both_true (is_polynomial (length vars) e) (are_polynomials (length vars) es) built in
     let x = word_of e (words_at env vars) in
     let set : List ℕ = slice_set env next x in
     let size : length set ≡ length env = length-set env next x in
@@ -51,14 +51,16 @@ assigned inputs (e ∷ es) vars next env bound below room =
 pub vars_below : (s : Pipe) → AllBelow (next_var s) (row_vars s)
 vars_below (Array k) = (omega arith, tt)
 vars_below (Map of body) = from_below (next_var of) (length body)
+vars_below _ = tt
 
 pub two_below : (s : Pipe) → 2 ≤ next_var s
 two_below (Array k) = omega arith
 two_below (Map of body) = omega (arith, two_below of)
+two_below _ = omega arith
 
 -- the statements of a row put its words into its variables
-pub row_put : (inputs : List Input) (s : Pipe) (env : List ℕ) (x : ℕ) → IsBound s → slice_get (items_of s inputs) (slice_index env 0) ≡ Some x → next_var s ≤ length env → Puts inputs (row_block s) env 1 (row_vars s) (row_at s x)
-row_put inputs (Array k) env x bound item room =
+pub row_put : (inputs : List Input) (s : Pipe) (env : List ℕ) (x : ℕ) → IsChain s → slice_get (items_of s inputs) (slice_index env 0) ≡ Some x → next_var s ≤ length env → Puts inputs (row_block s) env 1 (row_vars s) (row_at s x)
+row_put inputs (Array k) env x chain item room =
     record {
       env' = slice_set env 1 x;
       runs = λ left. ap (λ o. then_do (on_value (item_of o) (λ w. Runs [] (slice_set env 1 w) left)) (run inputs Nil)) item;
@@ -66,10 +68,10 @@ row_put inputs (Array k) env x bound item room =
       below = set_below env 1 x;
       holds = ap (λ w. w ∷ []) (get_or-set_same env 1 x 0 (omega (arith, room)));
     }
-row_put inputs (Map of body) env x bound item room =
+row_put inputs (Map of body) env x chain item room =
     let two = two_below of in
-    let first = row_put inputs of env x bound.0 item (omega (arith, room)) in
-    let second = assigned inputs body (row_vars of) (next_var of) first.env' bound.1 (vars_below of) (omega (arith, room, first.same)) in
+    let first = row_put inputs of env x chain.0 item (omega (arith, room)) in
+    let second = assigned inputs body (row_vars of) (next_var of) first.env' chain.1 (vars_below of) (omega (arith, room, first.same)) in
     record {
       env' = second.env';
       runs = λ left.
@@ -80,13 +82,15 @@ row_put inputs (Map of body) env x bound item room =
       below = λ v lt. second.below v (omega (arith, lt, two)) ∙ first.below v lt;
       holds = second.holds ∙ ap (words_of body) first.holds;
     }
+row_put inputs _ env x chain item room = absurd chain
 
 row_printed : (inputs : List Input) (vars env : List ℕ) (left : ℕ) → run inputs (print_block vars) env left ≡ Runs (row_events (words_at env vars) []) env left
 row_printed inputs [] env left = refl
 row_printed inputs (v ∷ vs) env left = ap (after (event.Emit (slice_index env v) ∷ [])) (row_printed inputs vs env left)
 
-finish_runs : (inputs : List Input) (t : Finish) (vars env : List ℕ) (left : ℕ) → run inputs (finish_block t vars) env left ≡ Runs (row_events (words_at env vars) []) env left
-finish_runs inputs Print vars env left = row_printed inputs vars env left
+finish_runs : (inputs : List Input) (t : Finish) (vars env : List ℕ) (left : ℕ) → IsTrue (is_built_finish t) → run inputs (finish_block t vars) env left ≡ Runs (row_events (words_at env vars) []) env left
+finish_runs inputs Print vars env left built = row_printed inputs vars env left
+finish_runs inputs _ vars env left built = absurd cc
 
 -- a turn prints the row of its item and goes on to the next
 pub record Turns (inputs : List Input) (p : Pipeline) (env : List ℕ) (x : ℕ) : Type 0 where
@@ -95,10 +99,10 @@ pub record Turns (inputs : List Input) (p : Pipeline) (env : List ℕ) (x : ℕ)
   pub same : length env' ≡ length env
   pub index : slice_index env' 0 ≡ sum_of (slice_index env 0) 1
 
-pub turned : (inputs : List Input) (p : Pipeline) (env : List ℕ) (x : ℕ) → IsBound p.stream → slice_get (items_of p.stream inputs) (slice_index env 0) ≡ Some x → next_var p.stream ≤ length env → Turns inputs p env x
-turned inputs p env x bound item room =
+pub turned : (inputs : List Input) (p : Pipeline) (env : List ℕ) (x : ℕ) → IsChain p.stream → IsTrue (is_built_finish p.terminal) → slice_get (items_of p.stream inputs) (slice_index env 0) ≡ Some x → next_var p.stream ≤ length env → Turns inputs p env x
+turned inputs p env x chain built item room =
     let s = p.stream in
-    let row = row_put inputs s env x bound item room in
+    let row = row_put inputs s env x chain item room in
     let events = row_events (row_at s x) [] in
     let next = sum_of (slice_index env 0) 1 in
     let two = two_below s in
@@ -109,7 +113,7 @@ turned inputs p env x bound item room =
           goes_on inputs (row_block s) (join (finish_block p.terminal (row_vars s)) step_block) [] env row.env' left (row.runs left)
           ∙ after_nothing (run inputs (join (finish_block p.terminal (row_vars s)) step_block) row.env' left)
           ∙ goes_on inputs (finish_block p.terminal (row_vars s)) step_block events row.env' row.env' left
-          (finish_runs inputs p.terminal (row_vars s) row.env' left ∙ ap (λ ws. Runs (row_events ws []) row.env' left) row.holds)
+          (finish_runs inputs p.terminal (row_vars s) row.env' left built ∙ ap (λ ws. Runs (row_events ws []) row.env' left) row.holds)
           ∙ ap (λ i. after events (Runs [] (slice_set row.env' 0 (sum_of i 1)) left)) (row.below 0 (omega arith))
           ∙ ap (λ e. Runs e (slice_set row.env' 0 next) left) (append-nil events);
       same = length-set row.env' 0 next ∙ row.same;

@@ -1,79 +1,155 @@
--- What a typed pipeline gives the emission: its variables are bound and few, and its names declared.
-use Rattle.std.proofs.Common.{◌≡◌, ℕ, zero, suc, ◌+◌, ◌*◌, ◌^◌, ◌<◌, ◌≤◌, List, [], ◌∷◌, length, Option, Some, None, Bool, true, false, ◌&&◌, refl, sym, ◌∙◌, subst, arith}
-use Rattle.std.specs.Prelude.{slice_index, slice_get, IsTrue, nat_lt, nat_le, if◌then◌else◌}
+-- What a typed pipeline that is built gives the emission: it is a chain of maps, its variables are few, and its names declared.
+use Rattle.std.proofs.Common.{◌≡◌, ℕ, zero, suc, ◌+◌, ◌*◌, ◌^◌, ◌<◌, ◌≤◌, List, [], ◌∷◌, length, Option, Some, None, Bool, true, false, ◌&&◌, refl, sym, ap, ◌∙◌, subst, arith}
+use Rattle.std.specs.Prelude.{slice_index, slice_get, IsTrue, IsSome, nat_lt, nat_le, if◌then◌else◌}
 use Rattle.std.proofs.lemmas.Bool.{lt-ltb, leb-true, ltb-true}
 use Rattle.strm_num.proofs.Truths.{both_true, true_both}
-use Rattle.list_denotation.proofs.Limits.{few_ops, is_wide}
+use Rattle.list_denotation.proofs.Limits.{few_ops}
+use Rattle.list_denotation.proofs.TypedKinds.{typed_stream}
+use Rattle.list_denotation.specs.declared.expr.BinOp.{BinOp}
+use Rattle.list_denotation.specs.declared.expr.BinOp.TheVariants.{Add, Sub, Mul}
 use Rattle.list_denotation.specs.declared.input.InputKind.{InputKind}
+use Rattle.list_denotation.specs.declared.kind.Kind.{Kind}
+use Rattle.list_denotation.specs.declared.kind.Kind.TheVariants as kind
 use Rattle.list_denotation.specs.declared.stream.Stream.{Stream}
-use Rattle.list_denotation.specs.Copies.{pipe_of}
+use Rattle.list_denotation.specs.declared.terminal.Terminal.{Terminal}
+use Rattle.list_denotation.specs.Copies.{pipe_of, finish_of}
 use Rattle.list_denotation.specs.Terms.{Term, Lit, Var, Bin, Pipe, Array, Map, Finish, Print, Pipeline}
 use Rattle.list_denotation.specs.Counts.{stream_ops, most_vars}
-use Rattle.list_denotation.specs.Typing.{is_array, is_bound, all_bound, width_of_row, width_of_map, width_of, has_width, is_typed}
+use Rattle.list_denotation.specs.Typing.{is_array, is_kind, kind_if, operation_kind, kind_of, one_more, kinds_of, row_kinds, with_kinds, kinds_where, stream_kinds, has_kinds, is_typed}
+use Rattle.strymonas_run.specs.Built.{is_built_operator, is_built_term, are_built, is_built_stream, is_built_finish}
 use Rattle.strymonas_run.specs.Statements as s
 use Rattle.strymonas_run.specs.Statements.{Block, Nil, Cons, join}
 use Rattle.strymonas_run.specs.DeclaredNames.{operand_declared, statement_declared, block_declared}
-use Rattle.strymonas_run.specs.Emission.{IsBound, operand_for, assignments, next_var, row_vars, row_block, source_of, print_block, finish_block, step_block, turn_block, routine_for}
+use Rattle.strymonas_run.specs.Emission.{IsChain, is_polynomial, are_polynomials, operand_for, assignments, next_var, row_vars, row_block, source_of, print_block, finish_block, step_block, turn_block, routine_for}
+use Rattle.strymonas_run.proofs.Values.{polynomial_parts}
 use Rattle.strymonas_run.proofs.Variables.{AllBelow, below_more, length_from}
 use Rattle.strymonas_run.proofs.Turn.{vars_below, two_below}
 
--- a row that has a width is bound, and isn't too wide
-row_typed : (n : ℕ) (body : List Term) (w : ℕ) → width_of_row n body ≡ Some w → IsTrue (all_bound n body) × (length body ≤ 8) × (length body ≡ w)
-row_typed n body w h = cases (all_bound n body) (nat_le 1 (length body)) (nat_le (length body) 8) refl refl h
-  where
-    cases : (a b c : Bool) → all_bound n body ≡ a → nat_le (length body) 8 ≡ c → (if a && (b && c) then Some (length body) else None) ≡ Some w → IsTrue (all_bound n body) × (length body ≤ 8) × (length body ≡ w)
-    cases true true true e f g = (e, leb-true (length body) 8 f, cc)
-    cases true true false e f g = absurd cc
-    cases true false c e f g = absurd cc
-    cases false b c e f g = absurd cc
+-- ---- expressions and rows
 
-map_typed : (o : Option ℕ) (body : List Term) (w : ℕ) → width_of_map o body ≡ Some w → (n : ℕ) × ((o ≡ Some n) × (width_of_row n body ≡ Some w))
-map_typed None body w h = absurd cc
-map_typed (Some n) body w h = (n, (refl, h))
+some_kind : (b : Bool) (k : Kind) → IsSome (kind_if b k) → IsTrue b
+some_kind true k h = refl
+some_kind false k h = absurd cc
 
--- the stream is bound, has rows of this width, and needs at most 8 variables for each operator
+some_int : (o : Option Kind) → IsTrue (is_kind kind.Int o) → IsSome o
+some_int None h = absurd cc
+some_int (Some k) h = refl
+
+int_operands : (a b : Option Kind) → IsSome (kind_if (is_kind kind.Int a && is_kind kind.Int b) kind.Int) → IsSome a × IsSome b
+int_operands a b h =
+    let parts = both_true (is_kind kind.Int a) (is_kind kind.Int b) (some_kind (is_kind kind.Int a && is_kind kind.Int b) kind.Int h) in
+    (some_int a parts.0, some_int b parts.1)
+
+operands_typed : (op : BinOp) (a b : Option Kind) → IsTrue (is_built_operator op) → IsSome (operation_kind op a b) → IsSome a × IsSome b
+operands_typed Add a b built h = int_operands a b h
+operands_typed Sub a b built h = int_operands a b h
+operands_typed Mul a b built h = int_operands a b h
+operands_typed _ a b built h = absurd cc
+
+var_below : (scope : List Kind) (k : ℕ) → IsSome (slice_get scope k) → k < length scope
+var_below [] k h = absurd cc
+var_below (x ∷ scope) zero h = omega arith
+var_below (x ∷ scope) (suc k) h = omega (arith, var_below scope k h)
+
+-- the parts of a row that has kinds
+first_some : (k : Option Kind) (ks : Option (List Kind)) (all : List Kind) → one_more k ks ≡ Some all → IsSome k
+first_some None ks all h = absurd cc
+first_some (Some k) ks all h = refl
+
+rest_some : (k : Option Kind) (ks : Option (List Kind)) (all : List Kind) → one_more k ks ≡ Some all → (rest : List Kind) × ((ks ≡ Some rest) × (length all ≡ suc (length rest)))
+rest_some None ks all h = absurd cc
+rest_some (Some k) None all h = absurd cc
+rest_some (Some k) (Some rest) all h = let same : k ∷ rest ≡ all = cc in (rest, (refl, ap length (sym same)))
+
+module _ (inputs : List InputKind) (scope : List Kind) where
+  -- what is built and has a kind is a polynomial in the bound words
+  term_typed : (e : Term) → IsTrue (is_built_term e) → IsSome (kind_of inputs scope e) → IsTrue (is_polynomial (length scope) e)
+  term_typed (Lit w) built h = refl
+  term_typed (Var k) built h = lt-ltb k (length scope) (var_below scope k h)
+  term_typed (Bin op a b) built h =
+      let n = length scope in
+      let first = both_true (is_built_operator op) (is_built_term a && is_built_term b) built in
+      let rest = both_true (is_built_term a) (is_built_term b) first.1 in
+      let kinds = operands_typed op (kind_of inputs scope a) (kind_of inputs scope b) first.0 h in
+      true_both (is_built_operator op) (is_polynomial n a && is_polynomial n b) first.0
+      (true_both (is_polynomial n a) (is_polynomial n b) (term_typed a rest.0 kinds.0) (term_typed b rest.1 kinds.1))
+  term_typed _ built h = absurd cc
+
+  words_typed : (es : List Term) (ks : List Kind) → IsTrue (are_built es) → kinds_of inputs scope es ≡ Some ks → IsTrue (are_polynomials (length scope) es) × (length es ≡ length ks)
+  words_typed [] ks built h = let same : [] ≡ ks = cc in (refl, ap length same)
+  words_typed (e ∷ es) ks built h =
+      let parts = both_true (is_built_term e) (are_built es) built in
+      let rest = rest_some (kind_of inputs scope e) (kinds_of inputs scope es) ks h in
+      let more = words_typed es rest.0 parts.1 rest.1.0 in
+      let first = term_typed e parts.0 (first_some (kind_of inputs scope e) (kinds_of inputs scope es) ks h) in
+      (true_both (is_polynomial (length scope) e) (are_polynomials (length scope) es) first more.0, ap suc more.1 ∙ sym rest.1.1)
+
+  row_typed : (es : List Term) (ks : List Kind) → IsTrue (are_built es) → row_kinds inputs scope es ≡ Some ks → IsTrue (are_polynomials (length scope) es) × (length es ≡ length ks) × (length es ≤ 8)
+  row_typed es ks built h = cases (nat_le 1 (length es)) (nat_le (length es) 8) refl h
+    where
+      cases : (a b : Bool) → nat_le (length es) 8 ≡ b → (if a && b then kinds_of inputs scope es else None) ≡ Some ks → IsTrue (are_polynomials (length scope) es) × (length es ≡ length ks) × (length es ≤ 8)
+      cases true true f g = let words = words_typed es ks built g in (words.0, words.1, leb-true (length es) 8 f)
+      cases true false f g = absurd cc
+      cases false b f g = absurd cc
+
+-- ---- streams
+
+-- the stream is a chain, has rows of this width, and needs at most 8 variables for each operator
 pub record Measures (s : Pipe) (w : ℕ) : Type 0 where
-  pub bound : IsBound s
+  pub chain : IsChain s
   pub width : length (row_vars s) ≡ w
   pub few : next_var s ≤ 8 * stream_ops s
 
-pub measured : (kinds : List InputKind) (s : Pipe) (w : ℕ) → width_of kinds s ≡ Some w → Measures s w
-measured kinds (Array k) w h = cases (is_array (slice_get kinds k)) h
-  where
-    cases : (b : Bool) → (if b then Some 1 else None) ≡ Some w → Measures (Array k) w
-    cases true e = record { bound = tt; width = cc; few = omega arith }
-    cases false e = absurd cc
-measured kinds (Map of body) w h =
-    let parts = map_typed (width_of kinds of) body w h in
-    let below = measured kinds of parts.0 parts.1.0 in
-    let row = row_typed parts.0 body w parts.1.1 in
-    record {
-      bound = (below.bound, subst (λ n. IsTrue (all_bound n body)) (sym below.width) row.0);
-      width = length_from (next_var of) (length body) ∙ row.2;
-      few = omega (arith, below.few, row.1);
-    }
+array_kinds : (b : Bool) (row : List Kind) → kinds_where b (kind.Int ∷ []) ≡ Some row → IsTrue b × (1 ≡ length row)
+array_kinds true row h = let same : kind.Int ∷ [] ≡ row = cc in (refl, ap length same)
+array_kinds false row h = absurd cc
 
-some_width : (o : Option ℕ) → IsTrue (has_width o) → (w : ℕ) × (o ≡ Some w)
-some_width None h = absurd cc
-some_width (Some w) h = (w, refl)
+under_kinds : (o : Option (List Kind)) (f : List Kind → Option (List Kind)) (ks : List Kind) → with_kinds o f ≡ Some ks → (row : List Kind) × ((o ≡ Some row) × (f row ≡ Some ks))
+under_kinds None f ks h = absurd cc
+under_kinds (Some row) f ks h = (row, (refl, h))
 
-pub typed_width : (kinds : List InputKind) (s : Pipe) → IsTrue (has_width (width_of kinds s)) → (w : ℕ) × (width_of kinds s ≡ Some w)
-typed_width kinds s h = some_width (width_of kinds s) h
+module _ (inputs : List InputKind) where
+  map_typed : (of : Pipe) (body : List Term) (ks : List Kind) → stream_kinds inputs [] (Map of body) ≡ Some ks → (row : List Kind) × ((stream_kinds inputs [] of ≡ Some row) × (row_kinds inputs row body ≡ Some ks))
+  map_typed of body ks h = under_kinds (stream_kinds inputs [] of) (λ row. row_kinds inputs row body) ks h
 
-pub typed_measures : (kinds : List InputKind) (s : Pipe) → IsTrue (has_width (width_of kinds s)) → (w : ℕ) × Measures s w
-typed_measures kinds s h = let found = typed_width kinds s h in (found.0, measured kinds s found.0 found.1)
+  pub measured : (s : Pipe) (ks : List Kind) → IsTrue (is_built_stream s) → stream_kinds inputs [] s ≡ Some ks → Measures s (length ks)
+  measured (Array k) ks built h =
+      record { chain = tt; width = (array_kinds (is_array (slice_get inputs k)) ks h).1; few = omega arith }
+  measured (Map of body) ks built h =
+      let built_parts = both_true (is_built_stream of) (are_built body) built in
+      let parts = map_typed of body ks h in
+      let below = measured of parts.0 built_parts.0 parts.1.0 in
+      let row = row_typed inputs parts.0 body ks built_parts.1 parts.1.1 in
+      record {
+        chain = (below.chain, subst (λ n. IsTrue (are_polynomials n body)) (sym below.width) row.0);
+        width = length_from (next_var of) (length body) ∙ row.1;
+        few = omega (arith, below.few, row.2);
+      }
+  measured _ ks built h = absurd cc
+
+  pub typed_source : (s : Pipe) (ks : List Kind) → IsTrue (is_built_stream s) → stream_kinds inputs [] s ≡ Some ks → IsTrue (is_array (slice_get inputs (source_of s)))
+  typed_source (Array k) ks built h = (array_kinds (is_array (slice_get inputs k)) ks h).0
+  typed_source (Map of body) ks built h =
+      let parts = map_typed of body ks h in
+      typed_source of parts.0 (both_true (is_built_stream of) (are_built body) built).0 parts.1.0
+  typed_source _ ks built h = absurd cc
+
+some_kinds : (o : Option (List Kind)) → IsTrue (has_kinds o) → (ks : List Kind) × (o ≡ Some ks)
+some_kinds None h = absurd cc
+some_kinds (Some ks) h = (ks, refl)
+
+-- the kinds of a typed program's rows
+pub stream_typed : (inputs : List InputKind) (s : Stream) (t : Terminal) → IsTrue (is_typed inputs s t) → (ks : List Kind) × (stream_kinds inputs [] (pipe_of s) ≡ Some ks)
+stream_typed inputs s t h = some_kinds (stream_kinds inputs [] (pipe_of s)) (typed_stream inputs s t h)
+
+pub typed_measures : (inputs : List InputKind) (s : Stream) (t : Terminal) → IsTrue (is_typed inputs s t) → IsTrue (is_built_stream (pipe_of s)) → (w : ℕ) × Measures (pipe_of s) w
+typed_measures inputs s t h built =
+    let found = stream_typed inputs s t h in (length found.0, measured inputs (pipe_of s) found.0 built found.1)
 
 pub vars_few : (p : Pipeline) (w : ℕ) → Measures p.stream w → next_var p.stream ≤ most_vars p
 vars_few p w h = omega (arith, h.few)
 
-pub typed_source : (kinds : List InputKind) (s : Pipe) (w : ℕ) → width_of kinds s ≡ Some w → IsTrue (is_array (slice_get kinds (source_of s)))
-typed_source kinds (Array k) w h = cases (is_array (slice_get kinds k)) refl h
-  where
-    cases : (b : Bool) → is_array (slice_get kinds k) ≡ b → (if b then Some 1 else None) ≡ Some w → IsTrue (is_array (slice_get kinds k))
-    cases true e g = e
-    cases false e g = absurd cc
-typed_source kinds (Map of body) w h =
-    let parts = map_typed (width_of kinds of) body w h in typed_source kinds of parts.0 parts.1.0
+-- ---- declared names
 
 module _ (kinds : List InputKind) (vars : ℕ) where
   below_declared : (v : ℕ) → v < vars → IsTrue (nat_lt v vars)
@@ -84,14 +160,15 @@ module _ (kinds : List InputKind) (vars : ℕ) where
   var_declared (v ∷ vs) zero below lt = below.0
   var_declared (v ∷ vs) (suc k) below lt = var_declared vs k below.1 (omega arith)
 
-  operand_is_declared : (e : Term) (slots : List ℕ) → IsTrue (is_bound (length slots) e) → AllBelow vars slots → IsTrue (operand_declared kinds vars (operand_for e slots))
-  operand_is_declared (Lit n) slots bound below = refl
-  operand_is_declared (Var k) slots bound below =
-      below_declared (slice_index slots k) (var_declared slots k below (ltb-true k (length slots) bound))
-  operand_is_declared (Bin op a b) slots bound below =
-      let parts = both_true (is_bound (length slots) a) (is_bound (length slots) b) bound in
+  operand_is_declared : (e : Term) (slots : List ℕ) → IsTrue (is_polynomial (length slots) e) → AllBelow vars slots → IsTrue (operand_declared kinds vars (operand_for e slots))
+  operand_is_declared (Lit n) slots built below = refl
+  operand_is_declared (Var k) slots built below =
+      below_declared (slice_index slots k) (var_declared slots k below (ltb-true k (length slots) built))
+  operand_is_declared (Bin op a b) slots built below =
+      let parts = polynomial_parts (length slots) op a b built in
       true_both (operand_declared kinds vars (operand_for a slots)) (operand_declared kinds vars (operand_for b slots))
-      (operand_is_declared a slots parts.0 below) (operand_is_declared b slots parts.1 below)
+      (operand_is_declared a slots parts.1 below) (operand_is_declared b slots parts.2 below)
+  operand_is_declared _ slots built below = absurd cc
 
   join_is_declared : (a b : Block) → IsTrue (block_declared kinds vars a) → IsTrue (block_declared kinds vars b) → IsTrue (block_declared kinds vars (join a b))
   join_is_declared Nil b h k = k
@@ -99,26 +176,27 @@ module _ (kinds : List InputKind) (vars : ℕ) where
       let parts = both_true (statement_declared kinds vars s) (block_declared kinds vars ss) h in
       true_both (statement_declared kinds vars s) (block_declared kinds vars (join ss b)) parts.0 (join_is_declared ss b parts.1 k)
 
-  assigned_is_declared : (es : List Term) (slots : List ℕ) (next : ℕ) → IsTrue (all_bound (length slots) es) → AllBelow vars slots → next + length es ≤ vars → IsTrue (block_declared kinds vars (assignments es slots next))
-  assigned_is_declared [] slots next bound below room = refl
-  assigned_is_declared (e ∷ es) slots next bound below room =
-      let parts = both_true (is_bound (length slots) e) (all_bound (length slots) es) bound in
+  assigned_is_declared : (es : List Term) (slots : List ℕ) (next : ℕ) → IsTrue (are_polynomials (length slots) es) → AllBelow vars slots → next + length es ≤ vars → IsTrue (block_declared kinds vars (assignments es slots next))
+  assigned_is_declared [] slots next built below room = refl
+  assigned_is_declared (e ∷ es) slots next built below room =
+      let parts = both_true (is_polynomial (length slots) e) (are_polynomials (length slots) es) built in
       let word = operand_declared kinds vars (operand_for e slots) in
       true_both (nat_lt next vars && word) (block_declared kinds vars (assignments es slots (next + 1)))
       (true_both (nat_lt next vars) word (below_declared next (omega (arith, room))) (operand_is_declared e slots parts.0 below))
       (assigned_is_declared es slots (next + 1) parts.1 below (omega (arith, room)))
 
-  row_is_declared : (s : Pipe) → IsBound s → IsTrue (is_array (slice_get kinds (source_of s))) → next_var s ≤ vars → IsTrue (block_declared kinds vars (row_block s))
-  row_is_declared (Array k) bound source room =
+  row_is_declared : (s : Pipe) → IsChain s → IsTrue (is_array (slice_get kinds (source_of s))) → next_var s ≤ vars → IsTrue (block_declared kinds vars (row_block s))
+  row_is_declared (Array k) chain source room =
       let word : IsTrue (nat_lt 0 vars) = below_declared 0 (omega (arith, room)) in
       true_both (statement_declared kinds vars (s.Read 1 k (s.Var 0))) true
       (true_both (nat_lt 1 vars) (is_array (slice_get kinds k) && nat_lt 0 vars) (below_declared 1 (omega (arith, room)))
       (true_both (is_array (slice_get kinds k)) (nat_lt 0 vars) source word))
       refl
-  row_is_declared (Map of body) bound source room =
+  row_is_declared (Map of body) chain source room =
       join_is_declared (row_block of) (assignments body (row_vars of) (next_var of))
-      (row_is_declared of bound.0 source (omega (arith, room)))
-      (assigned_is_declared body (row_vars of) (next_var of) bound.1 (below_more (next_var of) vars (row_vars of) (omega (arith, room)) (vars_below of)) (omega (arith, room)))
+      (row_is_declared of chain.0 source (omega (arith, room)))
+      (assigned_is_declared body (row_vars of) (next_var of) chain.1 (below_more (next_var of) vars (row_vars of) (omega (arith, room)) (vars_below of)) (omega (arith, room)))
+  row_is_declared _ chain source room = absurd chain
 
   print_is_declared : (slots : List ℕ) → AllBelow vars slots → IsTrue (block_declared kinds vars (print_block slots))
   print_is_declared [] below = refl
@@ -127,21 +205,22 @@ module _ (kinds : List InputKind) (vars : ℕ) where
 
   finish_is_declared : (t : Finish) (slots : List ℕ) → AllBelow vars slots → IsTrue (block_declared kinds vars (finish_block t slots))
   finish_is_declared Print slots below = print_is_declared slots below
+  finish_is_declared _ slots below = refl
 
 -- each name of the emitted program is declared
-pub routine_is_declared : (p : Pipeline) (w : ℕ) → width_of p.inputs p.stream ≡ Some w → IsTrue (block_declared p.inputs (next_var p.stream) (routine_for p).body)
-routine_is_declared p w h =
+pub routine_is_declared : (p : Pipeline) (ks : List Kind) → IsTrue (is_built_stream p.stream) → stream_kinds p.inputs [] p.stream ≡ Some ks → IsTrue (block_declared p.inputs (next_var p.stream) (routine_for p).body)
+routine_is_declared p ks built h =
     let kinds = p.inputs in
     let s = p.stream in
     let vars = next_var s in
     let two = two_below s in
-    let source = typed_source kinds s w h in
+    let source = typed_source kinds s ks built h in
     let first : IsTrue (nat_lt 0 vars) = below_declared kinds vars 0 (omega (arith, two)) in
     let step : IsTrue (block_declared kinds vars step_block) =
     true_both (nat_lt 0 vars && (nat_lt 0 vars && true)) true (true_both (nat_lt 0 vars) (nat_lt 0 vars && true) first (true_both (nat_lt 0 vars) true first refl)) refl in
     let turn : IsTrue (block_declared kinds vars (turn_block p)) =
     join_is_declared kinds vars (row_block s) (join (finish_block p.terminal (row_vars s)) step_block)
-    (row_is_declared kinds vars s (measured kinds s w h).bound source (omega arith))
+    (row_is_declared kinds vars s (measured kinds s ks built h).chain source (omega arith))
     (join_is_declared kinds vars (finish_block p.terminal (row_vars s)) step_block (finish_is_declared kinds vars p.terminal (row_vars s) (vars_below s)) step) in
     let guard : IsTrue (nat_lt 0 vars && is_array (slice_get kinds (source_of s))) = true_both (nat_lt 0 vars) (is_array (slice_get kinds (source_of s))) first source in
     true_both (nat_lt 0 vars && true) ((nat_lt 0 vars && is_array (slice_get kinds (source_of s))) && block_declared kinds vars (turn_block p) && true)
@@ -151,8 +230,14 @@ routine_is_declared p w h =
     refl)
 
 -- ---- from the fact that a program keeps
-pub typed_bound : (kinds : List InputKind) (s : Stream) → IsTrue (is_typed kinds s) → IsBound (pipe_of s)
-typed_bound kinds s h = (typed_measures kinds (pipe_of s) (is_wide kinds s h)).1.bound
+pub typed_chain : (inputs : List InputKind) (s : Stream) (t : Terminal) → IsTrue (is_typed inputs s t) → IsTrue (is_built_stream (pipe_of s) && is_built_finish (finish_of t)) → IsChain (pipe_of s)
+typed_chain inputs s t h built =
+    let parts = both_true (is_built_stream (pipe_of s)) (is_built_finish (finish_of t)) built in (typed_measures inputs s t h parts.0).1.chain
 
-pub typed_few : (kinds : List InputKind) (s : Stream) → IsTrue (is_typed kinds s) → next_var (pipe_of s) < 2 ^ 32
-typed_few kinds s h = omega (arith, (typed_measures kinds (pipe_of s) (is_wide kinds s h)).1.few, few_ops kinds s h)
+pub typed_few : (inputs : List InputKind) (s : Stream) (t : Terminal) → IsTrue (is_typed inputs s t) → IsTrue (is_built_stream (pipe_of s) && is_built_finish (finish_of t)) → next_var (pipe_of s) < 2 ^ 32
+typed_few inputs s t h built =
+    let parts = both_true (is_built_stream (pipe_of s)) (is_built_finish (finish_of t)) built in
+    omega (arith, (typed_measures inputs s t h parts.0).1.few, few_ops inputs s t h)
+
+pub printed_finish : (s : Stream) (t : Terminal) → IsTrue (is_built_stream (pipe_of s) && is_built_finish (finish_of t)) → IsTrue (is_built_finish (finish_of t))
+printed_finish s t built = (both_true (is_built_stream (pipe_of s)) (is_built_finish (finish_of t)) built).1

@@ -3,16 +3,15 @@ use Rattle.std.proofs.Common.{◌≡◌, ℕ, zero, suc, ◌+◌, ◌<◌, ◌�
 use Rattle.std.specs.Prelude.{slice_index, slice_set, IsTrue}
 use Rattle.std.proofs.lemmas.List.{get_or-set_other}
 use Rattle.std.proofs.lemmas.Bool.{ltb-true}
-use Rattle.strm_num.proofs.Truths.{both_true}
 use Rattle.list_denotation.specs.declared.expr.BinOp.{BinOp}
 use Rattle.list_denotation.specs.declared.expr.BinOp.TheVariants.{Add, Sub, Mul}
 use Rattle.list_denotation.specs.declared.input.Input.{Input}
 use Rattle.list_denotation.specs.Terms.{Term, Lit, Var, Bin}
 use Rattle.list_denotation.specs.Values.{Is}
-use Rattle.list_denotation.specs.Typing.{is_bound}
 use Rattle.strymonas_run.specs.Meaning.{operand_value, word_operation}
-use Rattle.strymonas_run.specs.Emission.{operator_for, operand_for, variables_from}
-use Rattle.strymonas_run.proofs.Values.{result_of, word_of}
+use Rattle.strymonas_run.specs.Built.{is_built_operator}
+use Rattle.strymonas_run.specs.Emission.{operator_for, operand_for, variables_from, is_polynomial}
+use Rattle.strymonas_run.proofs.Values.{result_of, word_of, polynomial_parts}
 
 -- the words of these variables
 abbrev pub words_at : List ℕ → List ℕ → List ℕ
@@ -52,16 +51,18 @@ word_at env [] k lt = absurd (omega arith)
 word_at env (v ∷ vs) zero lt = refl
 word_at env (v ∷ vs) (suc k) lt = word_at env vs k (omega arith)
 
-operation_for : (op : BinOp) (x y : ℕ) → word_operation (operator_for op) x y ≡ Is (result_of op x y)
-operation_for Add x y = refl
-operation_for Sub x y = refl
-operation_for Mul x y = refl
+operation_for : (op : BinOp) (x y : ℕ) → IsTrue (is_built_operator op) → word_operation (operator_for op) x y ≡ Is (result_of op x y)
+operation_for Add x y built = refl
+operation_for Sub x y built = refl
+operation_for Mul x y built = refl
+operation_for _ x y built = absurd cc
 
 -- the word of an expression is its value over the words of its variables
-pub operand_is : (inputs : List Input) (e : Term) (vars env : List ℕ) → IsTrue (is_bound (length vars) e) → operand_value inputs (operand_for e vars) env ≡ Is (word_of e (words_at env vars))
-operand_is inputs (Lit w) vars env bound = refl
-operand_is inputs (Var k) vars env bound = ap Is (word_at env vars k (ltb-true k (length vars) bound))
-operand_is inputs (Bin op a b) vars env bound =
-    let parts = both_true (is_bound (length vars) a) (is_bound (length vars) b) bound in
-    rw (operand_is inputs a vars env parts.0, operand_is inputs b vars env parts.1)
-    (operation_for op (word_of a (words_at env vars)) (word_of b (words_at env vars)))
+pub operand_is : (inputs : List Input) (e : Term) (vars env : List ℕ) → IsTrue (is_polynomial (length vars) e) → operand_value inputs (operand_for e vars) env ≡ Is (word_of e (words_at env vars))
+operand_is inputs (Lit w) vars env built = refl
+operand_is inputs (Var k) vars env built = ap Is (word_at env vars k (ltb-true k (length vars) built))
+operand_is inputs (Bin op a b) vars env built =
+    let parts = polynomial_parts (length vars) op a b built in
+    rw (operand_is inputs a vars env parts.1, operand_is inputs b vars env parts.2)
+    (operation_for op (word_of a (words_at env vars)) (word_of b (words_at env vars)) parts.0)
+operand_is inputs _ vars env built = absurd cc

@@ -3,17 +3,22 @@ use Rattle.std.specs.Prelude.{ℕ, List, [], ◌∷◌, Option, Some, None, Stri
 use Rattle.std.specs.declared.alloc.Global.{Global}
 use Rattle.std.specs.Str.{bytes_eq}
 use Rattle.strymonas_run.specs.declared.commands.Job.{Job}
-use Rattle.strymonas_run.specs.declared.commands.Job.TheVariants.{Compile}
+use Rattle.strymonas_run.specs.declared.commands.Job.TheVariants.{Compile, Check}
 
 -- the words as bytes
 abbrev pub texts_of : List (String Global) → List (List ℕ)
 texts_of words = map string_bytes words
 
--- what the words ask for, where they are a command: compile FILE
+-- the job of a command over one file
+abbrev pub job_named : List ℕ → Option Job
+job_named command =
+    if bytes_eq command (codes "compile") then Some Compile else if bytes_eq command (codes "check") then Some Check else None
+
+-- what the words ask for, where they are a command: compile FILE, or check FILE
 abbrev pub job_of : List (List ℕ) → Option Job
 job_of [] = None
 job_of (command ∷ []) = None
-job_of (command ∷ file ∷ []) = if bytes_eq command (codes "compile") then Some Compile else None
+job_of (command ∷ file ∷ []) = job_named command
 job_of (command ∷ file ∷ more ∷ rest) = None
 
 -- the file that the words name

@@ -1,24 +1,27 @@
--- The loop program of a pipeline: one loop over the array, in which each map sets its row's variables.
-use Rattle.std.specs.Prelude.{ℕ, zero, suc, ◌+◌, List, [], ◌∷◌, length, slice_index, IsTrue}
+-- The loop program of a pipeline that is built: one loop over the array, in which each map sets its row's
+-- variables. The last case of a definition stands for all that isn't built, of which nothing is promised.
+use Rattle.std.specs.Prelude.{ℕ, zero, suc, ◌+◌, List, [], ◌∷◌, length, slice_index, Bool, true, false, ◌&&◌, nat_lt, IsTrue}
 use Rattle.list_denotation.specs.declared.expr.BinOp.{BinOp}
 use Rattle.list_denotation.specs.declared.expr.BinOp.TheVariants as sign
 use Rattle.list_denotation.specs.Terms.{Term, Lit, Pipe, Array, Map, Finish, Print, Pipeline}
 use Rattle.list_denotation.specs.Terms as term
-use Rattle.list_denotation.specs.Typing.{all_bound}
 use Rattle.strymonas_run.specs.declared.loop_ir.syntax.WOp.{WOp}
 use Rattle.strymonas_run.specs.declared.loop_ir.syntax.WOp.TheVariants as op
+use Rattle.strymonas_run.specs.Built.{is_built_operator}
 use Rattle.strymonas_run.specs.Statements.{Operand, Const, Var, Len, Bin, Less, Set, Read, Loop, Emit, EndRow, Block, Nil, Cons, Routine, join}
 
 abbrev pub operator_for : BinOp → WOp
 operator_for sign.Add = op.Add
 operator_for sign.Sub = op.Sub
 operator_for sign.Mul = op.Mul
+operator_for _ = op.Xor
 
 -- the word of an expression whose bound words stand in these variables
 abbrev pub operand_for : Term → List ℕ → Operand
 operand_for (Lit n) vars = Const n
 operand_for (term.Var k) vars = Var (slice_index vars k)
 operand_for (term.Bin op a b) vars = Bin (operator_for op) (operand_for a vars) (operand_for b vars)
+operand_for _ vars = Const 0
 
 -- the words of a row are set in the variables from `next` on
 abbrev pub assignments : List Term → List ℕ → ℕ → Block
@@ -34,26 +37,42 @@ variables_from next (suc n) = next ∷ variables_from (next + 1) n
 abbrev pub next_var : Pipe → ℕ
 next_var (Array k) = 2
 next_var (Map of body) = next_var of + length body
+next_var _ = 2
 
 -- the variables of a stream's row
 abbrev pub row_vars : Pipe → List ℕ
 row_vars (Array k) = 1 ∷ []
 row_vars (Map of body) = variables_from (next_var of) (length body)
+row_vars _ = []
 
--- each variable of a map's body is one of the row below it
-abbrev pub IsBound : Pipe → Type 0
-IsBound (Array k) = Unit {0}
-IsBound (Map of body) = IsBound of × IsTrue (all_bound (length (row_vars of)) body)
+-- a polynomial in the first n bound words
+abbrev pub is_polynomial : ℕ → Term → Bool
+is_polynomial n (Lit w) = true
+is_polynomial n (term.Var k) = nat_lt k n
+is_polynomial n (term.Bin op a b) = is_built_operator op && (is_polynomial n a && is_polynomial n b)
+is_polynomial n _ = false
+
+abbrev pub are_polynomials : ℕ → List Term → Bool
+are_polynomials n [] = true
+are_polynomials n (e ∷ es) = is_polynomial n e && are_polynomials n es
+
+-- a chain of maps over an array, each of polynomials in the words of the row below it
+abbrev pub IsChain : Pipe → Type 0
+IsChain (Array k) = Unit {0}
+IsChain (Map of body) = IsChain of × IsTrue (are_polynomials (length (row_vars of)) body)
+IsChain _ = ⊥
 
 -- the statements that set a row of a stream, from the index of the item
 abbrev pub row_block : Pipe → Block
 row_block (Array k) = Cons (Read 1 k (Var 0)) Nil
 row_block (Map of body) = join (row_block of) (assignments body (row_vars of) (next_var of))
+row_block _ = Nil
 
 -- the array that a stream goes over
 abbrev pub source_of : Pipe → ℕ
 source_of (Array k) = k
 source_of (Map of body) = source_of of
+source_of _ = 0
 
 -- a row is printed
 abbrev pub print_block : List ℕ → Block
@@ -62,6 +81,7 @@ print_block (v ∷ vs) = Cons (Emit (Var v)) (print_block vs)
 
 abbrev pub finish_block : Finish → List ℕ → Block
 finish_block Print vars = print_block vars
+finish_block _ vars = Nil
 
 -- the index goes on to the next item
 abbrev pub step_block : Block

@@ -1,4 +1,4 @@
-pub mod FirstForm
+pub mod Built
 pub mod PipelineFile
 pub mod Refusals
 pub mod Reading
@@ -10,6 +10,7 @@ pub mod Meaning
 pub mod Layout
 pub mod Emission
 pub mod Headline
+pub mod CountLines
 pub mod Commands
 pub mod Statuses
-pub mod Compiling
+pub mod Jobs

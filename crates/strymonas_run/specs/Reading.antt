@@ -1,19 +1,19 @@
 -- What a file's bytes are, a pipeline or refused for one reason, and what the steps of reading them give.
-use Rattle.std.specs.Prelude.{◌≡◌, ℕ, List, Some, None, Result, Ok, Err}
+use Rattle.std.specs.Prelude.{◌≡◌, ℕ, List, Result, Ok, Err}
 use Rattle.pipe_lexer.specs.declared.fault.LexFault.{LexFault}
 use Rattle.pipe_lexer.specs.declared.fault.LexFault.TheVariants as lex
 use Rattle.pipe_grammar.specs.declared.fault.ParseFault.{ParseFault}
 use Rattle.pipe_grammar.specs.declared.fault.ParseFault.TheVariants as parse
-use Rattle.pipe_grammar.specs.Trees.{Text}
+use Rattle.pipe_types.specs.declared.fault.TypeFault.{TypeFault}
+use Rattle.pipe_types.specs.declared.fault.TypeFault.TheVariants as types
 use Rattle.list_denotation.specs.declared.program.Program.{Program}
 use Rattle.list_denotation.specs.Pipelines.{pipeline_of}
 use Rattle.list_denotation.specs.Terms.{Pipeline}
 use Rattle.strymonas_run.specs.declared.refusal.Refusal.{Refusal}
 use Rattle.strymonas_run.specs.declared.refusal.RefusalKind.{RefusalKind}
-use Rattle.strymonas_run.specs.declared.refusal.RefusalKind.TheVariants.{NotUtf8, BadChar, NumberTooLarge, Syntax, TooDeep, TooManyInputs, TooManyOps, TooManyNodes, Unbuilt}
+use Rattle.strymonas_run.specs.declared.refusal.RefusalKind.TheVariants.{NotUtf8, BadChar, NumberTooLarge, Syntax, TooDeep, TooManyInputs, TooManyOps, TooManyNodes, Unknown, Twice, Mismatch, WidthMismatch, TooWide, DivisionInOpening, NotArray}
 use Rattle.strymonas_run.specs.declared.refusal.TextFault.{TextFault}
 use Rattle.strymonas_run.specs.declared.refusal.TextFault.TheVariants.{Refused, NoMemory}
-use Rattle.strymonas_run.specs.FirstForm.{pipeline_for}
 use Rattle.strymonas_run.specs.PipelineFile.{IsPipelineFile}
 use Rattle.strymonas_run.specs.Refusals.{IsRefused}
 
@@ -51,15 +51,16 @@ of_tree (parse.TooManyOps at) = refused TooManyOps at
 of_tree (parse.TooManyNodes at) = refused TooManyNodes at
 of_tree parse.NoMemory = NoMemory
 
--- the reason where a tree isn't in the first form
-abbrev pub unbuilt : Refusal
-unbuilt = record { kind = Unbuilt; at = 0 }
-
--- what making the program of a tree gives
-abbrev pub IsBuilt : Text → Result Program TextFault → Type 0
-IsBuilt tree (Ok program) = pipeline_for tree ≡ Some (pipeline_of program)
-IsBuilt tree (Err (Refused r)) = (pipeline_for tree ≡ None) × (r ≡ unbuilt)
-IsBuilt tree (Err NoMemory) = Unit {0}
+-- the fault of a text whose kinds have this one
+abbrev pub of_kinds : TypeFault → TextFault
+of_kinds (types.Unknown at) = refused Unknown at
+of_kinds (types.Twice at) = refused Twice at
+of_kinds (types.Mismatch at) = refused Mismatch at
+of_kinds (types.WidthMismatch at) = refused WidthMismatch at
+of_kinds (types.TooWide at) = refused TooWide at
+of_kinds (types.DivisionInOpening at) = refused DivisionInOpening at
+of_kinds (types.NotArray at) = refused NotArray at
+of_kinds types.NoMemory = NoMemory
 
 -- the bytes are refused for this reason and no other, or memory was refused
 abbrev pub FailsAs : List ℕ → TextFault → Type 0

@@ -1,5 +1,6 @@
--- Why a file is refused: what is wrong with its bytes, by the kind and the place.
-use Rattle.std.specs.Prelude.{◌≡◌, ℕ, List, length, None, Err}
+-- Why a file is refused: what is wrong with its bytes, by the kind and the place. The tokens are looked at
+-- first, then the tree, and then its kinds.
+use Rattle.std.specs.Prelude.{◌≡◌, ℕ, List, length, Option, Some, None, Err}
 use Rattle.pipe_lexer.specs.declared.token.Token.{Token}
 use Rattle.pipe_lexer.specs.declared.fault.LexFault.TheVariants as lex
 use Rattle.pipe_lexer.specs.Lexing.{IsLexed, LexesAs}
@@ -7,30 +8,37 @@ use Rattle.pipe_grammar.specs.declared.fault.ParseFault.{ParseFault}
 use Rattle.pipe_grammar.specs.declared.fault.ParseFault.TheVariants as parse
 use Rattle.pipe_grammar.specs.Trees.{Text}
 use Rattle.pipe_grammar.specs.Tokens.{toks_of}
-use Rattle.pipe_grammar.specs.Grammar.{IsSentence}
-use Rattle.pipe_grammar.specs.Bounds.{IsBounded}
 use Rattle.pipe_grammar.specs.Parsing.{ParsesAs}
+use Rattle.pipe_types.specs.declared.fault.TypeFault.{TypeFault}
+use Rattle.pipe_types.specs.declared.fault.TypeFault.TheVariants as types
+use Rattle.pipe_types.specs.Checking.{check_of, IsTyped}
+use Rattle.list_denotation.specs.Terms.{Pipeline}
 use Rattle.strymonas_run.specs.declared.refusal.Refusal.{Refusal}
 use Rattle.strymonas_run.specs.declared.refusal.RefusalKind.{RefusalKind}
-use Rattle.strymonas_run.specs.declared.refusal.RefusalKind.TheVariants.{NotUtf8, BadChar, NumberTooLarge, Syntax, TooDeep, TooManyInputs, TooManyOps, TooManyNodes, Unbuilt}
-use Rattle.strymonas_run.specs.FirstForm.{pipeline_for}
+use Rattle.strymonas_run.specs.declared.refusal.RefusalKind.TheVariants.{NotUtf8, BadChar, NumberTooLarge, Syntax, TooDeep, TooManyInputs, TooManyOps, TooManyNodes, Unknown, Twice, Mismatch, WidthMismatch, TooWide, DivisionInOpening, NotArray, Unbuilt}
+use Rattle.strymonas_run.specs.PipelineFile.{HasTree}
 
--- the bytes are no text within the limits: their tokens have this fault
+-- the bytes have tokens, and these have this fault
 pub record HasFault (src : List ℕ) (fault : ParseFault) : Type 0 where
   pub toks : List Token
   pub lexed : IsLexed src toks
   pub parses : ParsesAs (length src) (toks_of src toks) (Err fault)
 
--- the bytes are a text within the limits, whose tree isn't in the first form
-pub record IsUnbuilt (src : List ℕ) : Type 0 where
-  pub toks : List Token
+-- the bytes have a tree, and this is its first fault of kinds
+pub record HasTypeFault (src : List ℕ) (fault : TypeFault) : Type 0 where
   pub tree : Text
-  pub lexed : IsLexed src toks
-  pub sentence : IsSentence (toks_of src toks) tree
-  pub bounded : IsBounded tree
-  pub not_built : pipeline_for tree ≡ None
+  pub text : HasTree src tree
+  pub checks : check_of tree ≡ Err fault
 
--- what is wrong with the bytes, of each kind at this place
+-- the bytes have a tree with kinds
+pub record HasNoFault (src : List ℕ) : Type 0 where
+  pub tree : Text
+  pub pipeline : Pipeline
+  pub text : HasTree src tree
+  pub typed : IsTyped tree pipeline
+
+-- what is wrong with the bytes, of each kind at this place. Unbuilt is nothing that is wrong with bytes: a
+-- command answers it of a pipeline.
 abbrev pub IsRefusedAt : List ℕ → RefusalKind → ℕ → Type 0
 IsRefusedAt src NotUtf8 at = LexesAs src (Err (lex.NotUtf8 at))
 IsRefusedAt src BadChar at = LexesAs src (Err (lex.BadChar at))
@@ -40,7 +48,19 @@ IsRefusedAt src TooDeep at = HasFault src (parse.TooDeep at)
 IsRefusedAt src TooManyInputs at = HasFault src (parse.TooManyInputs at)
 IsRefusedAt src TooManyOps at = HasFault src (parse.TooManyOps at)
 IsRefusedAt src TooManyNodes at = HasFault src (parse.TooManyNodes at)
-IsRefusedAt src Unbuilt at = IsUnbuilt src × (at ≡ 0)
+IsRefusedAt src Unknown at = HasTypeFault src (types.Unknown at)
+IsRefusedAt src Twice at = HasTypeFault src (types.Twice at)
+IsRefusedAt src Mismatch at = HasTypeFault src (types.Mismatch at)
+IsRefusedAt src WidthMismatch at = HasTypeFault src (types.WidthMismatch at)
+IsRefusedAt src TooWide at = HasTypeFault src (types.TooWide at)
+IsRefusedAt src DivisionInOpening at = HasTypeFault src (types.DivisionInOpening at)
+IsRefusedAt src NotArray at = HasTypeFault src (types.NotArray at)
+IsRefusedAt src Unbuilt at = ⊥
 
 abbrev pub IsRefused : List ℕ → Refusal → Type 0
 IsRefused src r = IsRefusedAt src r.kind r.at
+
+-- the refusal of the bytes, or none
+abbrev pub HasRefusal : List ℕ → Option Refusal → Type 0
+HasRefusal src None = HasNoFault src
+HasRefusal src (Some r) = IsRefused src r

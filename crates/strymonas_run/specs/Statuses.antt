@@ -5,7 +5,7 @@ use Rattle.strm_io.specs.Writing.{Appends}
 use Rattle.strm_io.specs.Appending.{AppendsPrefix}
 use Rattle.strymonas_run.specs.declared.refusal.Refusal.{Refusal}
 use Rattle.strymonas_run.specs.declared.refusal.RefusalKind.{RefusalKind}
-use Rattle.strymonas_run.specs.declared.refusal.RefusalKind.TheVariants.{NotUtf8, BadChar, NumberTooLarge, Syntax, TooDeep, TooManyInputs, TooManyOps, TooManyNodes, Unbuilt}
+use Rattle.strymonas_run.specs.declared.refusal.RefusalKind.TheVariants.{NotUtf8, BadChar, NumberTooLarge, Syntax, TooDeep, TooManyInputs, TooManyOps, TooManyNodes, Unknown, Twice, Mismatch, WidthMismatch, TooWide, DivisionInOpening, NotArray, Unbuilt}
 use Rattle.strymonas_run.specs.declared.statuses.Status.{Status}
 use Rattle.strymonas_run.specs.declared.statuses.Status.TheVariants.{Done, Words, Missing, Refused, ReadFault, WriteFault, NoMemory, TooLong}
 
@@ -28,6 +28,13 @@ kind_text TooDeep = codes "TooDeep"
 kind_text TooManyInputs = codes "TooManyInputs"
 kind_text TooManyOps = codes "TooManyOps"
 kind_text TooManyNodes = codes "TooManyNodes"
+kind_text Unknown = codes "Unknown"
+kind_text Twice = codes "Twice"
+kind_text Mismatch = codes "Mismatch"
+kind_text WidthMismatch = codes "WidthMismatch"
+kind_text TooWide = codes "TooWide"
+kind_text DivisionInOpening = codes "DivisionInOpening"
+kind_text NotArray = codes "NotArray"
 kind_text Unbuilt = codes "Unbuilt"
 
 -- the kind and the place

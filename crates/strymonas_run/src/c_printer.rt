@@ -9,7 +9,7 @@ ghost use Rattle.strymonas_run.specs.Routines.{routine_of};
 
 mod frame;
 mod operands;
-mod pieces;
+pub(crate) mod pieces;
 mod statements;
 #[cfg(test)]
 mod tests;

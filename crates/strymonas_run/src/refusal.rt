@@ -1,10 +1,11 @@
 ghost use Rattle.std.specs.Prelude.{◌≡◌};
-ghost use Rattle.strymonas_run.specs.Reading.{of_tokens, of_tree};
+ghost use Rattle.strymonas_run.specs.Reading.{of_tokens, of_tree, of_kinds};
 ghost use Rattle.strymonas_run.specs.Statuses.{kind_text};
 ghost use Rattle.strymonas_run.specs.declared.refusal.TextFault.TheVariants.{NoMemory as MemoryRefused};
 
 use pipe_grammar::ParseFault;
 use pipe_lexer::LexFault;
+use pipe_types::TypeFault;
 use strm_num::NoMemory;
 
 /// What is wrong with a file that is refused.
@@ -27,7 +28,21 @@ pub enum RefusalKind {
     TooManyOps,
     /// At the place the 8,193rd node of expressions stands.
     TooManyNodes,
-    /// The text isn't in the first form, and nothing else is compiled yet. The place is 0.
+    /// The name at the place is not in scope.
+    Unknown,
+    /// The name at the place was declared or bound before, beside it.
+    Twice,
+    /// The part at the place is not of the kind that its place asks for.
+    Mismatch,
+    /// The pattern or row at the place is not as wide as the row that it binds or follows.
+    WidthMismatch,
+    /// At the place stands the ninth part of a row, or a `zip` whose rows are wider than 8.
+    TooWide,
+    /// At the place a division stands in an opening expression.
+    DivisionInOpening,
+    /// The name at the place is in scope and no array input.
+    NotArray,
+    /// The text is a pipeline that isn't compiled yet. The place is 0. `compile` alone answers it.
     Unbuilt,
 }
 
@@ -45,6 +60,13 @@ impl RefusalKind {
             RefusalKind::TooManyInputs => "TooManyInputs",
             RefusalKind::TooManyOps => "TooManyOps",
             RefusalKind::TooManyNodes => "TooManyNodes",
+            RefusalKind::Unknown => "Unknown",
+            RefusalKind::Twice => "Twice",
+            RefusalKind::Mismatch => "Mismatch",
+            RefusalKind::WidthMismatch => "WidthMismatch",
+            RefusalKind::TooWide => "TooWide",
+            RefusalKind::DivisionInOpening => "DivisionInOpening",
+            RefusalKind::NotArray => "NotArray",
             RefusalKind::Unbuilt => "Unbuilt",
         }
     }
@@ -57,7 +79,7 @@ pub struct Refusal {
     pub at: u32,
 }
 
-/// Why a text isn't compiled.
+/// Why nothing is written for a text.
 #[derive(Clone, Copy, Debug, PartialEq, Eq)]
 pub enum TextFault {
     /// The text is refused for this reason.
@@ -99,6 +121,25 @@ impl From<ParseFault> for TextFault {
             ParseFault::TooManyOps(at) => TextFault::refused(RefusalKind::TooManyOps, at),
             ParseFault::TooManyNodes(at) => TextFault::refused(RefusalKind::TooManyNodes, at),
             ParseFault::NoMemory => TextFault::NoMemory,
+        }
+    }
+}
+
+impl From<TypeFault> for TextFault {
+    ghost from_gives = { λ e f. f ≡ of_kinds e };
+
+    fn from(fault: TypeFault) -> TextFault {
+        match fault {
+            TypeFault::Unknown(at) => TextFault::refused(RefusalKind::Unknown, at),
+            TypeFault::Twice(at) => TextFault::refused(RefusalKind::Twice, at),
+            TypeFault::Mismatch(at) => TextFault::refused(RefusalKind::Mismatch, at),
+            TypeFault::WidthMismatch(at) => TextFault::refused(RefusalKind::WidthMismatch, at),
+            TypeFault::TooWide(at) => TextFault::refused(RefusalKind::TooWide, at),
+            TypeFault::DivisionInOpening(at) => {
+                TextFault::refused(RefusalKind::DivisionInOpening, at)
+            }
+            TypeFault::NotArray(at) => TextFault::refused(RefusalKind::NotArray, at),
+            TypeFault::NoMemory => TextFault::NoMemory,
         }
     }
 }

@@ -3,10 +3,10 @@ ghost use Rattle.strm_io.specs.Counts.{Rose};
 ghost use Rattle.strymonas_run.specs.Commands.{texts_of, job_of, file_of};
 ghost use Rattle.strymonas_run.specs.Statuses.{line_of, Reports};
 ghost use Rattle.strymonas_run.specs.declared.refusal.Refusal.{Refusal};
-ghost use Rattle.strymonas_run.specs.Compiling.{Answers, HasCause, ComesWhere, IsTooLongFile, IsNoPipeline, IsRefusal, IsRefusedFile, IsComplete};
+ghost use Rattle.strymonas_run.specs.Jobs.{Answers, HasCause, ComesWhere, IsMissingFile, IsTooLongFile, IsNoPipeline, IsRefusal, IsRefusedFile, IsComplete};
 
-use crate::commands::{Job, read_words};
-use crate::compiling::compile_file;
+use crate::commands::read_words;
+use crate::jobs::do_job;
 use crate::reporting::report;
 use crate::statuses::Status;
 use std::alloc::Global;
@@ -31,7 +31,7 @@ pub fn run_words<F: Files, O: Sink, E: Sink>(
     // When each status comes.
     ensures words { (result ≡ Status.Words) ↔ (job_of (texts_of words.now) ≡ None) }
     ensures missing { ComesWhere (job_of (texts_of words.now)) (F.holds files.old) (file_of (texts_of words.now))
-        (λ file. file ≡ None) (λ s. s ≡ Status.Missing) result }
+        IsMissingFile (λ s. s ≡ Status.Missing) result }
     ensures too_long { ComesWhere (job_of (texts_of words.now)) (F.holds files.old) (file_of (texts_of words.now))
         IsTooLongFile (λ s. s ≡ Status.TooLong) result }
     ensures refused { ComesWhere (job_of (texts_of words.now)) (F.holds files.old) (file_of (texts_of words.now))
@@ -59,7 +59,7 @@ fn perform<F: Files, O: Sink>(alloc: Global, words: &[String], files: &mut F, ou
         (O.faults out.old) (O.faults out.new) result }
 {
     match read_words(words) {
-        Some(Job::Compile) => compile_file(alloc, name_in(words), files, out),
+        Some(job) => do_job(alloc, job, name_in(words), files, out),
         None => Status::Words,
     }
 }

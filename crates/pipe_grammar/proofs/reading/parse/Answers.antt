@@ -1,4 +1,4 @@
-use Rattle.std.proofs.Common.{ℕ, List, length, subst}
+use Rattle.std.proofs.Common.{length, subst}
 use Rattle.std.specs.Prelude.{Result, Ok}
 use Rattle.pipe_grammar.specs.declared.fault.ParseFault.{ParseFault}
 use Rattle.pipe_grammar.specs.declared.tree.Tree.{Tree}

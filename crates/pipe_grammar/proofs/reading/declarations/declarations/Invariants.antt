@@ -1,4 +1,4 @@
-use Rattle.std.proofs.Common.{ℕ, length, map}
+use Rattle.std.proofs.Common.{length, map}
 use Rattle.pipe_grammar.specs.Continuations.{MoreDeclarations}
 use Rattle.pipe_grammar.specs.TreeCopies.{declaration_of}
 use Rattle.pipe_grammar.specs.WholeTexts.{whole}

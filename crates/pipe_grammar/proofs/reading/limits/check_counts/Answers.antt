@@ -1,4 +1,4 @@
-use Rattle.std.proofs.Common.{◌≡◌, ℕ, ◌≤◌, List, length, map, sym, ◌∙◌, ap}
+use Rattle.std.proofs.Common.{ℕ, List, map, sym, ◌∙◌, ap}
 use Rattle.pipe_grammar.specs.declared.tree.Decl.{Decl}
 use Rattle.pipe_grammar.specs.Bounds.{text_inputs, text_ops, text_heads}
 use Rattle.pipe_grammar.specs.Counting.{count_of}

@@ -4,7 +4,7 @@ use Rattle.pipe_grammar.specs.declared.reading.separator.Separator.TheVariants.{
 use Rattle.pipe_grammar.specs.declared.tree.Name.{Name}
 use Rattle.pipe_grammar.specs.Continuations.{ALabel, MoreNames, Word, braced_pattern}
 use Rattle.pipe_grammar.specs.Readers.{braced_names, behind, left_of}
-use Rattle.pipe_grammar.specs.Trees.{Label, Pattern}
+use Rattle.pipe_grammar.specs.Trees.{Label}
 use Rattle.pipe_grammar.specs.TreeCopies.{label_of, pattern_of}
 use Rattle.pipe_grammar.proofs.Readings.{Comes, here, past, past_word, turn, take_token, fails, fails_word}
 use Rattle.pipe_grammar.proofs.FirstTokens.{more_names, names_end}

@@ -1,4 +1,4 @@
-use Rattle.std.proofs.Common.{ℕ, length, map}
+use Rattle.std.proofs.Common.{length, map}
 use Rattle.pipe_grammar.specs.Continuations.{MoreNames}
 use Rattle.pipe_grammar.specs.Readers.{braced_names}
 use Rattle.pipe_grammar.specs.TreeCopies.{label_of}

@@ -1,4 +1,4 @@
-use Rattle.std.proofs.Common.{◌≡◌, sym, ◌∙◌}
+use Rattle.std.proofs.Common.{sym, ◌∙◌}
 use Rattle.pipe_grammar.specs.Continuations.{APattern}
 use Rattle.pipe_grammar.specs.Readers.{single_name, left_of, copied}
 use Rattle.pipe_grammar.specs.TreeCopies.{pattern_of}

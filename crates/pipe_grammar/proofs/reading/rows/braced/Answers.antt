@@ -4,7 +4,7 @@ use Rattle.pipe_grammar.specs.declared.reading.separator.Separator.TheVariants.{
 use Rattle.pipe_grammar.specs.declared.tree.TExpr.{TExpr}
 use Rattle.pipe_grammar.specs.Continuations.{expression, MoreParts, Word, braced_row}
 use Rattle.pipe_grammar.specs.Readers.{braced_parts, behind, left_of}
-use Rattle.pipe_grammar.specs.Trees.{Formula, Row}
+use Rattle.pipe_grammar.specs.Trees.{Formula}
 use Rattle.pipe_grammar.specs.TreeCopies.{formula_of, row_of}
 use Rattle.pipe_grammar.proofs.Readings.{Comes, here, past, past_word, turn, take_token, fails, fails_word}
 use Rattle.pipe_grammar.proofs.FirstTokens.{more_parts, parts_end}

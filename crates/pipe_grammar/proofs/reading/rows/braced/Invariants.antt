@@ -1,4 +1,4 @@
-use Rattle.std.proofs.Common.{ℕ, length, map}
+use Rattle.std.proofs.Common.{length, map}
 use Rattle.pipe_grammar.specs.Continuations.{MoreParts}
 use Rattle.pipe_grammar.specs.Readers.{braced_parts}
 use Rattle.pipe_grammar.specs.TreeCopies.{formula_of}

@@ -1,4 +1,4 @@
-use Rattle.std.proofs.Common.{◌≡◌, sym, ◌∙◌}
+use Rattle.std.proofs.Common.{sym, ◌∙◌}
 use Rattle.pipe_grammar.specs.Continuations.{ARow}
 use Rattle.pipe_grammar.specs.Readers.{single_part, left_of, copied}
 use Rattle.pipe_grammar.specs.TreeCopies.{row_of}

@@ -1,4 +1,4 @@
-use Rattle.std.proofs.Common.{◌≡◌, ℕ, List, map, refl, sym, ◌∙◌, ap, subst}
+use Rattle.std.proofs.Common.{ℕ, map, refl, sym, ◌∙◌, ap, subst}
 use Rattle.std.specs.Prelude.{Err}
 use Rattle.pipe_grammar.specs.declared.fault.ParseFault.{ParseFault}
 use Rattle.pipe_grammar.specs.Continuations.{Continuation, AStream, End, ending}
@@ -6,7 +6,7 @@ use Rattle.pipe_grammar.specs.Exactness.{Read}
 use Rattle.pipe_grammar.specs.Parsing.{place_or_end}
 use Rattle.pipe_grammar.specs.Readers.{end_of, left_of}
 use Rattle.pipe_grammar.specs.TreeCopies.{declaration_of, stream_of, terminal_of}
-use Rattle.pipe_grammar.specs.Trees.{Declaration, Stream, Text}
+use Rattle.pipe_grammar.specs.Trees.{Stream, Text}
 use Rattle.pipe_grammar.specs.WholeTexts.{Placed, ReadsAs, a_terminal, placed, whole}
 use Rattle.pipe_grammar.proofs.Readings.{here, past, take_token}
 use Rattle.pipe_grammar.proofs.TextReadings.{text_fails, text_read, text_goes_on}

@@ -1,0 +1,17 @@
+pub mod Faults
+pub mod Insides
+pub mod Lists
+pub mod Meanings
+pub mod Parts
+pub mod Passing
+pub mod Patterns
+pub mod Places
+pub mod TypedExpressions
+pub mod TypedRows
+pub mod TypedPatterns
+pub mod TypedFoldings
+pub mod TypedStreams
+pub mod TypedSources
+pub mod TypedStages
+pub mod TypedTrees
+pub mod TypedPrograms

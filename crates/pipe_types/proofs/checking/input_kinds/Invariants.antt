@@ -1,0 +1,7 @@
+use Rattle.std.proofs.Common.{◌≡◌, map, take}
+use Rattle.pipe_grammar.specs.TreeCopies.{declaration_of}
+use Rattle.pipe_types.specs.Checking.{input_kinds}
+use Rattle.pipe_types.proofs.checking.input_kinds.Given as goal
+
+abbrev pub invariant-loop-input : goal.invariant-loop-input
+invariant-loop-input l = l.kinds ≡ input_kinds (map declaration_of (take l.input-index l.inputs))

@@ -1,0 +1,61 @@
+//! The program that a tree stands for, or the first fault.
+
+ghost use Rattle.std.specs.Prelude.{◌≡◌, map, IfOk};
+ghost use Rattle.list_denotation.specs.Pipelines.{pipeline_of};
+ghost use Rattle.pipe_grammar.specs.Bounds.{IsBounded};
+ghost use Rattle.pipe_grammar.specs.TreeCopies.{declaration_of, text_of};
+ghost use Rattle.pipe_types.specs.Checked.{IsOneUnlessRefused};
+ghost use Rattle.pipe_types.specs.Checking.{check_of, input_kind, input_kinds};
+
+use crate::fault::TypeFault;
+use crate::scopes::{Scope, distinct_inputs};
+use crate::streams::{typed_stream, typed_terminal};
+use list_denotation::{InputKind, InputKinds, Program};
+use pipe_grammar::{Decl, Tree};
+use std::alloc::Global;
+use strm_num::NoMemory;
+
+/// What an input is declared as.
+fn input_kind(kind: pipe_lexer::InputKind) -> InputKind
+    ensures { result ≡ input_kind kind }
+{
+    match kind {
+        pipe_lexer::InputKind::Array => InputKind::Array,
+        pipe_lexer::InputKind::Int => InputKind::Int,
+    }
+}
+
+/// The kinds of declared inputs.
+fn input_kinds(alloc: Global, inputs: &[Decl]) -> Result<InputKinds, NoMemory>
+    ensures { IfOk result (λ kinds. kinds ≡ input_kinds (map declaration_of inputs.now)) }
+{
+    let mut kinds = InputKinds::new(alloc);
+    for input in inputs {
+        kinds.push(input_kind(input.kind))?;
+    }
+    Ok(kinds)
+}
+
+/// The program that a tree within the limits stands for, or the first fault where its text is gone
+/// through from left to right.
+///
+/// The faults say which rule is broken, each at its place in bytes. `NoMemory` may come at any time.
+pub fn check(alloc: Global, t: &Tree) -> Result<Program, TypeFault>
+    requires bounded { IsBounded (text_of t.now) }
+    ensures checks { IsOneUnlessRefused pipeline_of result (check_of (text_of t.now)) }
+{
+    let decls = t.inputs.as_slice();
+    distinct_inputs(decls)?;
+    let scope = Scope {
+        inputs: decls,
+        bound: Vec::new(alloc),
+    };
+    let rows = typed_stream(alloc, &scope, &t.stream)?;
+    let terminal = typed_terminal(alloc, &scope, &t.terminal, rows.kinds.as_slice())?;
+    let inputs = input_kinds(alloc, decls)?;
+    Ok(Program {
+        inputs,
+        stream: rows.stream,
+        terminal,
+    })
+}

@@ -1,0 +1,36 @@
+//! Laws of the definitions. These functions do nothing: their contracts are the laws.
+
+ghost use Rattle.std.specs.Prelude.{◌≡◌, ◌≢◌, ◌≤◌, ◌↔◌, ℕ, List, Option, None, length};
+ghost use Rattle.list_denotation.specs.Terms.{Pipeline};
+ghost use Rattle.strymonas_run.specs.declared.commands.Job.TheVariants.{Check};
+ghost use Rattle.strymonas_run.specs.declared.refusal.RefusalKind.TheVariants.{Unbuilt};
+ghost use Rattle.strymonas_run.specs.Jobs.{IsRefusedBy};
+ghost use Rattle.strymonas_run.specs.PipelineFile.{IsPipelineFile};
+ghost use Rattle.strymonas_run.specs.Refusals.{HasRefusal};
+ghost use Rattle.strymonas_run.specs.declared.refusal.Refusal.{Refusal};
+
+use pipe_grammar::answers_are_one;
+
+/// A file is one pipeline at most.
+pub fn files_are_one_pipeline()
+    ensures { (src : List ℕ) (p q : Pipeline) → IsPipelineFile src p → IsPipelineFile src q → p ≡ q }
+{
+    answers_are_one();
+}
+
+/// A file has one refusal at most, and none beside it.
+pub fn files_have_one_refusal()
+    ensures { (src : List ℕ) (a b : Option Refusal) → HasRefusal src a → HasRefusal src b → a ≡ b }
+{
+    answers_are_one();
+}
+
+/// A file of at most 65,536 bytes has no refusal exactly where it is some pipeline.
+pub fn pipelines_have_no_refusal()
+    ensures { (src : List ℕ) → length src ≤ 65536 → HasRefusal src None ↔ ((p : Pipeline) × IsPipelineFile src p) }
+{}
+
+/// `check` refuses no file as `Unbuilt`.
+pub fn checks_are_never_unbuilt()
+    ensures { (src : List ℕ) (r : Refusal) → IsRefusedBy Check src r → r.kind ≢ Unbuilt }
+{}
