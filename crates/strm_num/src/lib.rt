@@ -1,15 +1,21 @@
 //! Words, the refusal of memory, and the list that all named list types are.
 //!
-//! It stands on nothing but std. The crates above use three promises of it: a list is what its
+//! It stands on nothing but std. The crates above use four promises of it: a list is what its
 //! contracts say on every call, also after a refused `push`; `NoMemory` is the one error of a
-//! call that allocates; and `specs/Words` is the arithmetic of words that definitions cite.
+//! call that allocates; `specs/Words` is the arithmetic of words that definitions cite; and
+//! `div_signed`, `rem_signed` and `less_signed` give the quotient, the remainder and the order of
+//! signed values as `specs/Words` defines them, with none for a zero divisor alone.
 #![tactic(auto)]
 
 mod list;
 mod memory;
+mod signed_words;
+#[cfg(test)]
+mod tests;
 
 pub use list::List;
 pub use memory::NoMemory;
+pub use signed_words::{div_signed, less_signed, rem_signed};
 
 /// A number from 0 to 2^64 - 1. Its signed value is itself below 2^63, else itself minus 2^64.
 pub type Word = u64;
