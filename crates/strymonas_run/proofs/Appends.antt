@@ -1,55 +1,24 @@
--- The code appends statements one by one; the definitions join blocks.
-use Rattle.std.proofs.Common.{rules, ◌≡◌, ℕ, zero, suc, ◌+◌, ◌-◌, ◌<◌, ◌≤◌, List, [], ◌∷◌, ◌++◌, length, drop, Some, refl, sym, ap, ◌∙◌, append_assoc, append-nil, arith}
+-- The steps of the emission, which appends statements one by one.
+use Rattle.std.proofs.Common.{◌≡◌, ℕ, zero, suc, ◌+◌, ◌-◌, ◌<◌, ◌≤◌, List, [], ◌∷◌, ◌++◌, length, drop, Some, refl, sym, ap, ◌∙◌, append_assoc, append-nil, arith}
 use Rattle.std.specs.Prelude.{slice_get, IsTrue}
 use Rattle.std.proofs.lemmas.List.{drop_all}
 use Rattle.strm_num.proofs.Lists.{drop_at}
 use Rattle.strm_num.proofs.Truths.{both_true}
 use Rattle.list_denotation.specs.declared.expr.Expr.{Expr}
 use Rattle.list_denotation.specs.Copies.{term_of, terms_of}
-use Rattle.strymonas_run.specs.declared.loop_ir.syntax.Stmt.{Stmt, the_lemmas}
-use Rattle.strymonas_run.specs.declared.loop_ir.syntax.Stmt.TheVariants as stmt
-use Rattle.strymonas_run.specs.declared.loop_ir.syntax.T.{T}
-use Rattle.strymonas_run.specs.declared.loop_ir.syntax.W.{W}
-use Rattle.strymonas_run.specs.declared.loop_ir.syntax.W.TheVariants as w
-use Rattle.strymonas_run.specs.Statements.{Var, Statement, Set, Read, Loop, Emit, EndRow, Block, Nil, Cons, join}
-use Rattle.strymonas_run.specs.StatementCopies.{operand_of, test_of, statement_of, block_of}
+use Rattle.loop_ir.specs.declared.syntax.Stmt.{Stmt}
+use Rattle.loop_ir.specs.declared.syntax.Stmt.TheVariants as stmt
+use Rattle.loop_ir.specs.declared.syntax.W.{W}
+use Rattle.loop_ir.specs.declared.syntax.W.TheVariants as w
+use Rattle.loop_ir.specs.Statements.{Var, Set, Emit, Cons, join}
+use Rattle.loop_ir.specs.StatementCopies.{operand_of, block_of}
+use Rattle.loop_ir.proofs.Copies.{join_join, join-nil, set_copy, emit_copy, push_front, set_push, read_push, loop_push, end_push}
 use Rattle.strymonas_run.specs.Emission.{operand_for, assignments, variables_from, is_polynomial, are_polynomials, print_block}
 use Rattle.strymonas_run.proofs.Typed.{typed_chain, typed_few, printed_finish}
 
 pub terms_of_length : (es : List Expr) → length (terms_of es) ≡ length es
 terms_of_length [] = refl
 terms_of_length (e ∷ es) = ap suc (terms_of_length es)
-
-pub block_push : (ss : List Stmt) (s : Stmt) → block_of (ss ++ s ∷ []) ≡ join (block_of ss) (Cons (statement_of s) Nil)
-block_push [] s = refl
-block_push (x ∷ ss) s = ap (λ b. Cons (statement_of x) b) (block_push ss s)
-
-pub join_join : (a b c : Block) → join (join a b) c ≡ join a (join b c)
-join_join Nil b c = refl
-join_join (Cons s a) b c = ap (λ rest. Cons s rest) (join_join a b c)
-
-pub join-nil : (a : Block) → join a Nil ≡ a
-join-nil Nil = refl
-join-nil (Cons s a) = ap (λ rest. Cons s rest) (join-nil a)
-
-set_copy : (v : ℕ) (x : W) → statement_of (stmt.Set v x) ≡ Set v (operand_of x)
-set_copy v x = search (rules, the_lemmas)
-
-read_copy : (v a : ℕ) (x : W) → statement_of (stmt.Read v a x) ≡ Read v a (operand_of x)
-read_copy v a x = search (rules, the_lemmas)
-
-emit_copy : (x : W) → statement_of (stmt.Emit x) ≡ Emit (operand_of x)
-emit_copy x = search (rules, the_lemmas)
-
-loop_copy : (t : T) (body : List Stmt) → statement_of (stmt.Loop t body) ≡ Loop (test_of t) (block_of body)
-loop_copy t body = search (rules, the_lemmas)
-
-end_copy : statement_of stmt.EndRow ≡ EndRow
-end_copy = search (rules, the_lemmas)
-
--- a statement in front of what is still to come
-push_front : (ss : List Stmt) (s : Stmt) (t : Statement) (rest : Block) → statement_of s ≡ t → join (block_of (ss ++ s ∷ [])) rest ≡ join (block_of ss) (Cons t rest)
-push_front ss s t rest e = ap (λ b. join b rest) (block_push ss s) ∙ join_join (block_of ss) (Cons (statement_of s) Nil) rest ∙ ap (λ u. join (block_of ss) (Cons u rest)) e
 
 -- ---- the words of a row
 pub polynomial_at : (n : ℕ) (es : List Expr) (i : ℕ) (e : Expr) → IsTrue (are_polynomials n (terms_of es)) → slice_get es i ≡ Some e → IsTrue (is_polynomial n (term_of e))
@@ -96,21 +65,11 @@ print_step ss vars i v h =
 
 pub print_end : (ss : List Stmt) (vars : List ℕ) (i : ℕ) → length vars ≤ i → block_of (ss ++ stmt.EndRow ∷ []) ≡ join (block_of ss) (print_block (drop i vars))
 print_end ss vars i le =
-    block_push ss stmt.EndRow ∙ ap (λ s. join (block_of ss) (Cons s Nil)) end_copy ∙ ap (λ l. join (block_of ss) (print_block l)) (sym (drop_all i vars le))
+    end_push ss ∙ ap (λ l. join (block_of ss) (print_block l)) (sym (drop_all i vars le))
 
 pub ruleset print_steps = (print_step, print_end)
 
 -- ---- a row and a turn
-pub read_step : (ss : List Stmt) (v a : ℕ) (x : W) → block_of (ss ++ stmt.Read v a x ∷ []) ≡ join (block_of ss) (Cons (Read v a (operand_of x)) Nil)
-read_step ss v a x = block_push ss (stmt.Read v a x) ∙ ap (λ s. join (block_of ss) (Cons s Nil)) (read_copy v a x)
+pub ruleset row_steps = (read_push, join_join)
 
-pub set_step : (ss : List Stmt) (v : ℕ) (x : W) → block_of (ss ++ stmt.Set v x ∷ []) ≡ join (block_of ss) (Cons (Set v (operand_of x)) Nil)
-set_step ss v x = block_push ss (stmt.Set v x) ∙ ap (λ s. join (block_of ss) (Cons s Nil)) (set_copy v x)
-
-pub loop_step : (ss : List Stmt) (t : T) (body : List Stmt) → block_of (ss ++ stmt.Loop t body ∷ []) ≡ join (block_of ss) (Cons (Loop (test_of t) (block_of body)) Nil)
-loop_step ss t body =
-    block_push ss (stmt.Loop t body) ∙ ap (λ s. join (block_of ss) (Cons s Nil)) (loop_copy t body)
-
-pub ruleset row_steps = (read_step, join_join)
-
-pub ruleset turn_steps = (set_step, loop_step, join_join, typed_chain, typed_few, printed_finish)
+pub ruleset turn_steps = (set_push, loop_push, join_join, typed_chain, typed_few, printed_finish)

@@ -8,11 +8,11 @@ use Rattle.list_denotation.specs.declared.program.Program.{Program}
 use Rattle.list_denotation.specs.Copies.{pipe_of, finish_of}
 use Rattle.list_denotation.specs.Pipelines.{pipeline_of}
 use Rattle.list_denotation.specs.Typing.{is_typed}
-use Rattle.strymonas_run.specs.declared.loop_ir.syntax.Stmt.{Stmt}
+use Rattle.loop_ir.specs.declared.syntax.Stmt.{Stmt}
 use Rattle.strymonas_run.specs.Built.{is_built_stream, is_built_finish, is_built}
-use Rattle.strymonas_run.specs.Statements.{Routine}
-use Rattle.strymonas_run.specs.StatementCopies.{block_of}
-use Rattle.strymonas_run.specs.DeclaredNames.{IsDeclared}
+use Rattle.loop_ir.specs.Statements.{Routine}
+use Rattle.loop_ir.specs.StatementCopies.{block_of}
+use Rattle.loop_ir.specs.DeclaredNames.{IsDeclared}
 use Rattle.strymonas_run.specs.Emission.{next_var, routine_for}
 use Rattle.strymonas_run.specs.Headline.{IsEmitted}
 use Rattle.strymonas_run.proofs.Typed.{stream_typed, typed_measures, routine_is_declared, vars_few}

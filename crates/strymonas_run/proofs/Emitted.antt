@@ -21,11 +21,11 @@ use Rattle.list_denotation.specs.Observation.{Done, Going, Seen, printed, row_ev
 use Rattle.list_denotation.specs.Far.{Far}
 use Rattle.list_denotation.specs.Work.{row_count, work}
 use Rattle.strymonas_run.specs.Built.{is_built_finish}
-use Rattle.strymonas_run.specs.Statements.{Var, Len, Less, Nil}
-use Rattle.strymonas_run.specs.Meaning.{Outcome, Runs, Over, after, then_do, on_test, test_value, turns, run, seen, meaning}
+use Rattle.loop_ir.specs.Statements.{Var, Len, Less, Nil}
+use Rattle.loop_ir.specs.Meaning.{Outcome, Runs, Over, after, then_do, on_test, test_value, turns, run, seen, meaning}
 use Rattle.strymonas_run.specs.Emission.{IsChain, source_of, next_var, turn_block, routine_for}
 use Rattle.strymonas_run.proofs.Values.{row_at, items_of, denotation_is, work_is}
-use Rattle.strymonas_run.proofs.Joins.{after_nothing}
+use Rattle.loop_ir.proofs.Joins.{after_nothing}
 use Rattle.strymonas_run.proofs.Turn.{turned, two_below}
 
 item_at : (items before : List ℕ) (x : ℕ) (rest : List ℕ) → items ≡ before ++ (x ∷ rest) → slice_get items (length before) ≡ Some x

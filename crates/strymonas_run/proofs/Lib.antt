@@ -1,5 +1,4 @@
 pub mod Values
-pub mod Joins
 pub mod Variables
 pub mod Turn
 pub mod Emitted
@@ -7,7 +6,6 @@ pub mod Typed
 pub mod BuiltRows
 pub mod Appends
 pub mod Compiled
-pub mod CountsToTwo
 pub mod PrintedText
 pub mod ReportLemmas
 pub mod Readings

@@ -4,7 +4,7 @@ use Rattle.std.specs.Prelude.{slice_get, Result, OnOk}
 use Rattle.std.proofs.lemmas.List.{take-replicate, at_drop_more, at_drop_all}
 use Rattle.std.proofs.lemmas.Option.{slice_get_within, get_or_from_slice_get}
 use Rattle.list_denotation.specs.declared.input.InputKind.{InputKind}
-use Rattle.strymonas_run.specs.Layout.{indent, param_text, more_params_text, declaration_text, declarations_text}
+use Rattle.loop_ir.specs.Layout.{indent, param_text, more_params_text, declaration_text, declarations_text}
 
 -- a piece of the text that was still to come is there now
 pub moved_on : (before now piece rest more all : List ℕ) → now ≡ before ++ piece → rest ≡ piece ++ more → before ++ rest ≡ all → now ++ more ≡ all

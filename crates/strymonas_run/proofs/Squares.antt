@@ -10,7 +10,7 @@ use Rattle.list_denotation.specs.Terms.{Pipeline}
 use Rattle.list_denotation.specs.Observation.{Done, Going, Seen, observation}
 use Rattle.list_denotation.specs.Work.{work}
 use Rattle.list_denotation.specs.Counts.{ops, nodes, depth, most_vars}
-use Rattle.strymonas_run.specs.Meaning.{meaning}
+use Rattle.loop_ir.specs.Meaning.{meaning}
 use Rattle.strymonas_run.specs.Emission.{routine_for}
 
 abbrev pub squares : Pipeline

@@ -9,11 +9,11 @@ use Rattle.list_denotation.specs.declared.input.Input.{Input}
 use Rattle.list_denotation.specs.Terms.{Term, Pipe, Array, Map, Finish, Print, Pipeline}
 use Rattle.list_denotation.specs.Observation.{row_events}
 use Rattle.strymonas_run.specs.Built.{is_built_finish}
-use Rattle.strymonas_run.specs.Statements.{Block, Nil, join}
-use Rattle.strymonas_run.specs.Meaning.{Runs, after, then_do, on_value, item_of, run}
+use Rattle.loop_ir.specs.Statements.{Block, Nil, join}
+use Rattle.loop_ir.specs.Meaning.{Runs, after, then_do, on_value, item_of, run}
 use Rattle.strymonas_run.specs.Emission.{IsChain, is_polynomial, are_polynomials, assignments, variables_from, next_var, row_vars, row_block, print_block, finish_block, step_block, turn_block}
 use Rattle.strymonas_run.proofs.Values.{word_of, words_of, row_at, items_of}
-use Rattle.strymonas_run.proofs.Joins.{after_nothing, goes_on}
+use Rattle.loop_ir.proofs.Joins.{after_nothing, goes_on}
 use Rattle.strymonas_run.proofs.Variables.{words_at, AllBelow, SameBelow, words_same, below_more, from_below, set_below, operand_is}
 
 -- the statements put words into these variables, and leave the variables below n

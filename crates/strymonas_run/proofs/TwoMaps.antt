@@ -11,7 +11,7 @@ use Rattle.list_denotation.specs.Terms.{Pipeline}
 use Rattle.list_denotation.specs.Observation.{Done, Going, Seen, observation}
 use Rattle.list_denotation.specs.Work.{work}
 use Rattle.strymonas_run.specs.Built.{is_built}
-use Rattle.strymonas_run.specs.Meaning.{meaning}
+use Rattle.loop_ir.specs.Meaning.{meaning}
 use Rattle.strymonas_run.specs.Emission.{routine_for}
 
 abbrev two_maps : Pipeline

@@ -17,9 +17,10 @@ use Rattle.list_denotation.specs.Terms.{Term, Lit, Var, Bin, Pipe, Array, Map, F
 use Rattle.list_denotation.specs.Counts.{stream_ops, most_vars}
 use Rattle.list_denotation.specs.Typing.{is_array, is_kind, kind_if, operation_kind, kind_of, one_more, kinds_of, row_kinds, with_kinds, kinds_where, stream_kinds, has_kinds, is_typed}
 use Rattle.strymonas_run.specs.Built.{is_built_operator, is_built_term, are_built, is_built_stream, is_built_finish}
-use Rattle.strymonas_run.specs.Statements as s
-use Rattle.strymonas_run.specs.Statements.{Block, Nil, Cons, join}
-use Rattle.strymonas_run.specs.DeclaredNames.{operand_declared, statement_declared, block_declared}
+use Rattle.loop_ir.specs.Statements as s
+use Rattle.loop_ir.specs.Statements.{join}
+use Rattle.loop_ir.specs.DeclaredNames.{declared_names, operand_names, statement_names, block_names}
+use Rattle.loop_ir.proofs.JoinedBlocks.{names_joined}
 use Rattle.strymonas_run.specs.Emission.{IsChain, is_polynomial, are_polynomials, operand_for, assignments, next_var, row_vars, row_block, source_of, print_block, finish_block, step_block, turn_block, routine_for}
 use Rattle.strymonas_run.proofs.Values.{polynomial_parts}
 use Rattle.strymonas_run.proofs.Variables.{AllBelow, below_more, length_from}
@@ -160,55 +161,49 @@ module _ (kinds : List InputKind) (vars : ℕ) where
   var_declared (v ∷ vs) zero below lt = below.0
   var_declared (v ∷ vs) (suc k) below lt = var_declared vs k below.1 (omega arith)
 
-  operand_is_declared : (e : Term) (slots : List ℕ) → IsTrue (is_polynomial (length slots) e) → AllBelow vars slots → IsTrue (operand_declared kinds vars (operand_for e slots))
+  operand_is_declared : (e : Term) (slots : List ℕ) → IsTrue (is_polynomial (length slots) e) → AllBelow vars slots → IsTrue (operand_names (declared_names kinds vars) (operand_for e slots))
   operand_is_declared (Lit n) slots built below = refl
   operand_is_declared (Var k) slots built below =
       below_declared (slice_index slots k) (var_declared slots k below (ltb-true k (length slots) built))
   operand_is_declared (Bin op a b) slots built below =
       let parts = polynomial_parts (length slots) op a b built in
-      true_both (operand_declared kinds vars (operand_for a slots)) (operand_declared kinds vars (operand_for b slots))
+      true_both (operand_names (declared_names kinds vars) (operand_for a slots)) (operand_names (declared_names kinds vars) (operand_for b slots))
       (operand_is_declared a slots parts.1 below) (operand_is_declared b slots parts.2 below)
   operand_is_declared _ slots built below = absurd cc
 
-  join_is_declared : (a b : Block) → IsTrue (block_declared kinds vars a) → IsTrue (block_declared kinds vars b) → IsTrue (block_declared kinds vars (join a b))
-  join_is_declared Nil b h k = k
-  join_is_declared (Cons s ss) b h k =
-      let parts = both_true (statement_declared kinds vars s) (block_declared kinds vars ss) h in
-      true_both (statement_declared kinds vars s) (block_declared kinds vars (join ss b)) parts.0 (join_is_declared ss b parts.1 k)
-
-  assigned_is_declared : (es : List Term) (slots : List ℕ) (next : ℕ) → IsTrue (are_polynomials (length slots) es) → AllBelow vars slots → next + length es ≤ vars → IsTrue (block_declared kinds vars (assignments es slots next))
+  assigned_is_declared : (es : List Term) (slots : List ℕ) (next : ℕ) → IsTrue (are_polynomials (length slots) es) → AllBelow vars slots → next + length es ≤ vars → IsTrue (block_names (declared_names kinds vars) (assignments es slots next))
   assigned_is_declared [] slots next built below room = refl
   assigned_is_declared (e ∷ es) slots next built below room =
       let parts = both_true (is_polynomial (length slots) e) (are_polynomials (length slots) es) built in
-      let word = operand_declared kinds vars (operand_for e slots) in
-      true_both (nat_lt next vars && word) (block_declared kinds vars (assignments es slots (next + 1)))
+      let word = operand_names (declared_names kinds vars) (operand_for e slots) in
+      true_both (nat_lt next vars && word) (block_names (declared_names kinds vars) (assignments es slots (next + 1)))
       (true_both (nat_lt next vars) word (below_declared next (omega (arith, room))) (operand_is_declared e slots parts.0 below))
       (assigned_is_declared es slots (next + 1) parts.1 below (omega (arith, room)))
 
-  row_is_declared : (s : Pipe) → IsChain s → IsTrue (is_array (slice_get kinds (source_of s))) → next_var s ≤ vars → IsTrue (block_declared kinds vars (row_block s))
+  row_is_declared : (s : Pipe) → IsChain s → IsTrue (is_array (slice_get kinds (source_of s))) → next_var s ≤ vars → IsTrue (block_names (declared_names kinds vars) (row_block s))
   row_is_declared (Array k) chain source room =
       let word : IsTrue (nat_lt 0 vars) = below_declared 0 (omega (arith, room)) in
-      true_both (statement_declared kinds vars (s.Read 1 k (s.Var 0))) true
+      true_both (statement_names (declared_names kinds vars) (s.Read 1 k (s.Var 0))) true
       (true_both (nat_lt 1 vars) (is_array (slice_get kinds k) && nat_lt 0 vars) (below_declared 1 (omega (arith, room)))
       (true_both (is_array (slice_get kinds k)) (nat_lt 0 vars) source word))
       refl
   row_is_declared (Map of body) chain source room =
-      join_is_declared (row_block of) (assignments body (row_vars of) (next_var of))
+      names_joined (declared_names kinds vars) (row_block of) (assignments body (row_vars of) (next_var of))
       (row_is_declared of chain.0 source (omega (arith, room)))
       (assigned_is_declared body (row_vars of) (next_var of) chain.1 (below_more (next_var of) vars (row_vars of) (omega (arith, room)) (vars_below of)) (omega (arith, room)))
   row_is_declared _ chain source room = absurd chain
 
-  print_is_declared : (slots : List ℕ) → AllBelow vars slots → IsTrue (block_declared kinds vars (print_block slots))
+  print_is_declared : (slots : List ℕ) → AllBelow vars slots → IsTrue (block_names (declared_names kinds vars) (print_block slots))
   print_is_declared [] below = refl
   print_is_declared (v ∷ vs) below =
-      true_both (nat_lt v vars) (block_declared kinds vars (print_block vs)) (below_declared v below.0) (print_is_declared vs below.1)
+      true_both (nat_lt v vars) (block_names (declared_names kinds vars) (print_block vs)) (below_declared v below.0) (print_is_declared vs below.1)
 
-  finish_is_declared : (t : Finish) (slots : List ℕ) → AllBelow vars slots → IsTrue (block_declared kinds vars (finish_block t slots))
+  finish_is_declared : (t : Finish) (slots : List ℕ) → AllBelow vars slots → IsTrue (block_names (declared_names kinds vars) (finish_block t slots))
   finish_is_declared Print slots below = print_is_declared slots below
   finish_is_declared _ slots below = refl
 
 -- each name of the emitted program is declared
-pub routine_is_declared : (p : Pipeline) (ks : List Kind) → IsTrue (is_built_stream p.stream) → stream_kinds p.inputs [] p.stream ≡ Some ks → IsTrue (block_declared p.inputs (next_var p.stream) (routine_for p).body)
+pub routine_is_declared : (p : Pipeline) (ks : List Kind) → IsTrue (is_built_stream p.stream) → stream_kinds p.inputs [] p.stream ≡ Some ks → IsTrue (block_names (declared_names p.inputs (next_var p.stream)) (routine_for p).body)
 routine_is_declared p ks built h =
     let kinds = p.inputs in
     let s = p.stream in
@@ -216,17 +211,17 @@ routine_is_declared p ks built h =
     let two = two_below s in
     let source = typed_source kinds s ks built h in
     let first : IsTrue (nat_lt 0 vars) = below_declared kinds vars 0 (omega (arith, two)) in
-    let step : IsTrue (block_declared kinds vars step_block) =
+    let step : IsTrue (block_names (declared_names kinds vars) step_block) =
     true_both (nat_lt 0 vars && (nat_lt 0 vars && true)) true (true_both (nat_lt 0 vars) (nat_lt 0 vars && true) first (true_both (nat_lt 0 vars) true first refl)) refl in
-    let turn : IsTrue (block_declared kinds vars (turn_block p)) =
-    join_is_declared kinds vars (row_block s) (join (finish_block p.terminal (row_vars s)) step_block)
+    let turn : IsTrue (block_names (declared_names kinds vars) (turn_block p)) =
+    names_joined (declared_names kinds vars) (row_block s) (join (finish_block p.terminal (row_vars s)) step_block)
     (row_is_declared kinds vars s (measured kinds s ks built h).chain source (omega arith))
-    (join_is_declared kinds vars (finish_block p.terminal (row_vars s)) step_block (finish_is_declared kinds vars p.terminal (row_vars s) (vars_below s)) step) in
+    (names_joined (declared_names kinds vars) (finish_block p.terminal (row_vars s)) step_block (finish_is_declared kinds vars p.terminal (row_vars s) (vars_below s)) step) in
     let guard : IsTrue (nat_lt 0 vars && is_array (slice_get kinds (source_of s))) = true_both (nat_lt 0 vars) (is_array (slice_get kinds (source_of s))) first source in
-    true_both (nat_lt 0 vars && true) ((nat_lt 0 vars && is_array (slice_get kinds (source_of s))) && block_declared kinds vars (turn_block p) && true)
+    true_both (nat_lt 0 vars && true) ((nat_lt 0 vars && is_array (slice_get kinds (source_of s))) && block_names (declared_names kinds vars) (turn_block p) && true)
     (true_both (nat_lt 0 vars) true first refl)
-    (true_both ((nat_lt 0 vars && is_array (slice_get kinds (source_of s))) && block_declared kinds vars (turn_block p)) true
-    (true_both (nat_lt 0 vars && is_array (slice_get kinds (source_of s))) (block_declared kinds vars (turn_block p)) guard turn)
+    (true_both ((nat_lt 0 vars && is_array (slice_get kinds (source_of s))) && block_names (declared_names kinds vars) (turn_block p)) true
+    (true_both (nat_lt 0 vars && is_array (slice_get kinds (source_of s))) (block_names (declared_names kinds vars) (turn_block p)) guard turn)
     refl)
 
 -- ---- from the fact that a program keeps

@@ -8,7 +8,7 @@ use Rattle.list_denotation.specs.declared.expr.BinOp.TheVariants.{Add, Sub, Mul}
 use Rattle.list_denotation.specs.declared.input.Input.{Input}
 use Rattle.list_denotation.specs.Terms.{Term, Lit, Var, Bin}
 use Rattle.list_denotation.specs.Values.{Is}
-use Rattle.strymonas_run.specs.Meaning.{operand_value, word_operation}
+use Rattle.loop_ir.specs.Meaning.{operand_value, word_operation}
 use Rattle.strymonas_run.specs.Built.{is_built_operator}
 use Rattle.strymonas_run.specs.Emission.{operator_for, operand_for, variables_from, is_polynomial}
 use Rattle.strymonas_run.proofs.Values.{result_of, word_of, polynomial_parts}

@@ -5,10 +5,10 @@ use Rattle.list_denotation.specs.declared.expr.BinOp.{BinOp}
 use Rattle.list_denotation.specs.declared.expr.BinOp.TheVariants as sign
 use Rattle.list_denotation.specs.Terms.{Term, Lit, Pipe, Array, Map, Finish, Print, Pipeline}
 use Rattle.list_denotation.specs.Terms as term
-use Rattle.strymonas_run.specs.declared.loop_ir.syntax.WOp.{WOp}
-use Rattle.strymonas_run.specs.declared.loop_ir.syntax.WOp.TheVariants as op
+use Rattle.loop_ir.specs.declared.syntax.WOp.{WOp}
+use Rattle.loop_ir.specs.declared.syntax.WOp.TheVariants as op
 use Rattle.strymonas_run.specs.Built.{is_built_operator}
-use Rattle.strymonas_run.specs.Statements.{Operand, Const, Var, Len, Bin, Less, Set, Read, Loop, Emit, EndRow, Block, Nil, Cons, Routine, join}
+use Rattle.loop_ir.specs.Statements.{Operand, Const, Var, Len, Bin, Less, Set, Read, Loop, Emit, EndRow, Block, Nil, Cons, Routine, join}
 
 abbrev pub operator_for : BinOp → WOp
 operator_for sign.Add = op.Add

@@ -7,8 +7,8 @@ use Rattle.list_denotation.specs.Observation.{observation}
 use Rattle.list_denotation.specs.Far.{Far}
 use Rattle.list_denotation.specs.Work.{work}
 use Rattle.list_denotation.specs.Counts.{most_vars}
-use Rattle.strymonas_run.specs.Statements.{Routine}
-use Rattle.strymonas_run.specs.Meaning.{meaning}
+use Rattle.loop_ir.specs.Statements.{Routine}
+use Rattle.loop_ir.specs.Meaning.{meaning}
 
 pub record IsEmitted (p : Pipeline) (q : Routine) : Type 0 where
   -- at n turns no further than the lists at n pulls

@@ -18,9 +18,9 @@ use Rattle.strymonas_run.specs.Built.{is_built}
 use Rattle.strymonas_run.specs.PipelineFile.{IsPipelineFile}
 use Rattle.strymonas_run.specs.Refusals.{IsRefused}
 use Rattle.strymonas_run.specs.Reading.{IsReading}
-use Rattle.strymonas_run.specs.Statements.{Routine}
-use Rattle.strymonas_run.specs.DeclaredNames.{block_declared}
-use Rattle.strymonas_run.specs.Layout.{layout}
+use Rattle.loop_ir.specs.Statements.{Routine}
+use Rattle.loop_ir.specs.DeclaredNames.{declared_names, block_names}
+use Rattle.loop_ir.specs.Layout.{layout}
 use Rattle.strymonas_run.specs.Headline.{IsEmitted}
 use Rattle.strymonas_run.specs.CountLines.{counts_text}
 
@@ -34,7 +34,7 @@ takes Compile p = is_built p
 -- the bytes are the C text of a program of the pipeline
 pub record IsTextOf (p : Pipeline) (c : List ℕ) : Type 0 where
   pub routine : Routine
-  pub declared : IsTrue (block_declared routine.params routine.vars routine.body)
+  pub declared : IsTrue (block_names (declared_names routine.params routine.vars) routine.body)
   pub text : c ≡ layout routine
   pub emitted : IsEmitted p routine
 

@@ -2,12 +2,6 @@ pub mod Built
 pub mod PipelineFile
 pub mod Refusals
 pub mod Reading
-pub mod Statements
-pub mod StatementCopies
-pub mod DeclaredNames
-pub mod Routines
-pub mod Meaning
-pub mod Layout
 pub mod Emission
 pub mod Headline
 pub mod CountLines

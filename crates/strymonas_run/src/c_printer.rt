@@ -1,11 +1,11 @@
 //! The C text of a loop program: a line for each part, indented by the braces that are open.
 //!
-//! The text is the one that `specs/Layout` defines, in C as ISO/IEC 9899:2011 has it. `print_c`
+//! The text is the one that `specs/Layout` of loop_ir defines, in C as ISO/IEC 9899:2011 has it. `print_c`
 //! carries that promise.
 
 ghost use Rattle.std.specs.Prelude.{◌≡◌, IfOk};
-ghost use Rattle.strymonas_run.specs.Layout.{layout};
-ghost use Rattle.strymonas_run.specs.Routines.{routine_of};
+ghost use Rattle.loop_ir.specs.Layout.{layout};
+ghost use Rattle.loop_ir.specs.Routines.{routine_of};
 
 mod frame;
 mod operands;
@@ -14,8 +14,8 @@ mod statements;
 #[cfg(test)]
 mod tests;
 
-use crate::loop_ir::Prog;
 use frame::{put_declarations, put_head};
+use loop_ir::Prog;
 use pieces::put;
 use statements::put_block;
 use std::alloc::Global;

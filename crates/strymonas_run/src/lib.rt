@@ -1,12 +1,13 @@
 //! The program as a library: a pipeline's text goes in, and its C text comes out.
 //!
 //! It stands on pipe_lexer, pipe_grammar and pipe_types for a text's tokens, its tree and its kinds, on
-//! list_denotation for programs and what they mean, on strm_io for devices and on itoa for numbers.
+//! list_denotation for programs and what they mean, on loop_ir for loop programs and what those mean, on
+//! strm_io for devices and on itoa for numbers.
 //! `run_words` carries the promise. Unless memory is refused or a device fails, `check` writes the
 //! counts of each pipeline file, and `compile` the text of a loop program of each that is built so far,
 //! which goes no further than the pipeline's lists, and as far as they do. Any other file is refused
-//! for the one reason that there is, with its place. The laws are of the definitions alone. The modules
-//! `loop_ir` and `c_printer` can be used by themselves: `print_c` gives the layout of any loop program.
+//! for the one reason that there is, with its place. The laws are of the definitions alone. The module
+//! `c_printer` can be used by itself: `print_c` gives the layout of any loop program.
 #![tactic(auto)]
 
 mod built;
@@ -17,7 +18,6 @@ mod counting;
 mod jobs;
 mod laws;
 mod loop_emit;
-pub mod loop_ir;
 mod reading;
 mod refusal;
 mod reporting;

@@ -7,14 +7,14 @@ ghost use Rattle.std.specs.Prelude.{◌≡◌, ◌+◌, ◌<◌, ◌^◌, ℕ, L
 ghost use Rattle.list_denotation.specs.Copies.{term_of, terms_of, pipe_of, finish_of};
 ghost use Rattle.list_denotation.specs.Pipelines.{pipeline_of};
 ghost use Rattle.strymonas_run.specs.Built.{is_built_operator, is_built_finish, is_built};
-ghost use Rattle.strymonas_run.specs.Statements.{Nil, Cons, Set as SetVar, join};
-ghost use Rattle.strymonas_run.specs.StatementCopies.{operand_of, statement_of, block_of};
-ghost use Rattle.strymonas_run.specs.Routines.{routine_of};
+ghost use Rattle.loop_ir.specs.Statements.{Nil, Cons, Set as SetVar, join};
+ghost use Rattle.loop_ir.specs.StatementCopies.{operand_of, statement_of, block_of};
+ghost use Rattle.loop_ir.specs.Routines.{routine_of};
 ghost use Rattle.strymonas_run.specs.Emission.{IsChain, is_polynomial, are_polynomials, operator_for, operand_for, assignments, variables_from, next_var, row_vars, row_block, source_of, print_block, finish_block, step_block, turn_block, routine_for};
 ghost use Rattle.strymonas_run.specs.Headline.{IsEmitted};
 
-use crate::loop_ir::{Prog, Stmt, Stmts, T, W, WOp};
 use list_denotation::{BinOp, Expr, Exprs, Program, Stream, Terminal};
+use loop_ir::{Prog, Stmt, Stmts, T, W, WOp};
 use std::alloc::Global;
 use strm_num::{List, NoMemory};
 

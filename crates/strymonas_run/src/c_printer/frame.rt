@@ -1,7 +1,7 @@
 //! What stands round the statements: the function's line and its variables.
 
 ghost use Rattle.std.specs.Prelude.{◌≡◌, ◌++◌, codes, OnOk, drop};
-ghost use Rattle.strymonas_run.specs.Layout.{param_text, more_params_text, params_text, declarations_text, declaration_text, head_text};
+ghost use Rattle.loop_ir.specs.Layout.{param_text, more_params_text, params_text, declarations_text, declaration_text, head_text};
 
 use super::pieces::{put, put_numbered};
 use list_denotation::{InputKind, InputKinds};

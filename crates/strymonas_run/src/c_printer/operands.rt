@@ -1,11 +1,11 @@
 //! Words and tests. Every operation stands in parentheses, so that no precedence is needed.
 
-ghost use Rattle.std.specs.Prelude.{◌≡◌, ◌++◌, OnOk};
-ghost use Rattle.strymonas_run.specs.StatementCopies.{operand_of, test_of};
-ghost use Rattle.strymonas_run.specs.Layout.{operator_text, operand_text, test_text};
+ghost use Rattle.std.specs.Prelude.{◌≡◌, ◌++◌, codes, OnOk};
+ghost use Rattle.loop_ir.specs.StatementCopies.{operand_of, test_of};
+ghost use Rattle.loop_ir.specs.Layout.{operator_text, operand_text, test_text};
 
 use super::pieces::{put, put_number, put_numbered};
-use crate::loop_ir::{T, W, WOp};
+use loop_ir::{T, W, WOp};
 use strm_num::NoMemory;
 
 fn put_operator(out: &mut Vec<u8>, op: WOp) -> Result<(), NoMemory>
@@ -15,6 +15,8 @@ fn put_operator(out: &mut Vec<u8>, op: WOp) -> Result<(), NoMemory>
         WOp::Add => put(out, b" + "),
         WOp::Sub => put(out, b" - "),
         WOp::Mul => put(out, b" * "),
+        WOp::Div => put(out, b" / "),
+        WOp::Rem => put(out, b" % "),
         WOp::Xor => put(out, b" ^ "),
     }
 }
@@ -30,6 +32,7 @@ pub fn put_operand(out: &mut Vec<u8>, w: &W) -> Result<(), NoMemory>
         }
         W::Var(v) => put_numbered(out, b"v", u64::from(*v)),
         W::Len(a) => put_numbered(out, b"n", u64::from(*a)),
+        W::Int(k) => put_numbered(out, b"i", u64::from(*k)),
         W::Bin(op, a, b) => {
             put(out, b"(")?;
             put_operand(out, a)?;
@@ -40,16 +43,41 @@ pub fn put_operand(out: &mut Vec<u8>, w: &W) -> Result<(), NoMemory>
     }
 }
 
+/// Puts two words with an order's sign between them.
+fn put_compared(out: &mut Vec<u8>, a: &W, sign: &[u8], b: &W) -> Result<(), NoMemory>
+    ensures { OnOk result (out.new.items ≡ out.old.items ++ (codes "(" ++ operand_text (operand_of a.now) ++ sign.now ++ operand_text (operand_of b.now) ++ codes ")")) }
+{
+    put(out, b"(")?;
+    put_operand(out, a)?;
+    put(out, sign)?;
+    put_operand(out, b)?;
+    put(out, b")")
+}
+
 /// Puts a test.
 pub fn put_test(out: &mut Vec<u8>, t: &T) -> Result<(), NoMemory>
     ensures { OnOk result (out.new.items ≡ out.old.items ++ test_text (test_of t.now)) }
 {
     match t {
-        T::Less(a, b) => {
+        T::Less(a, b) => put_compared(out, a, b" < ", b),
+        T::Same(a, b) => put_compared(out, a, b" == ", b),
+        T::Both(a, b) => {
             put(out, b"(")?;
-            put_operand(out, a)?;
-            put(out, b" < ")?;
-            put_operand(out, b)?;
+            put_test(out, a)?;
+            put(out, b" && ")?;
+            put_test(out, b)?;
+            put(out, b")")
+        }
+        T::Either(a, b) => {
+            put(out, b"(")?;
+            put_test(out, a)?;
+            put(out, b" || ")?;
+            put_test(out, b)?;
+            put(out, b")")
+        }
+        T::Not(a) => {
+            put(out, b"(!")?;
+            put_test(out, a)?;
             put(out, b")")
         }
     }

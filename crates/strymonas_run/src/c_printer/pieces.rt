@@ -1,7 +1,7 @@
 //! The smallest pieces of the text, each put at the end of what is there.
 
 ghost use Rattle.std.specs.Prelude.{◌≡◌, ◌≤◌, ◌++◌, decimal, OnOk};
-ghost use Rattle.strymonas_run.specs.Layout.{indent, deeper};
+ghost use Rattle.loop_ir.specs.Layout.{indent, deeper};
 
 use itoa::Buffer;
 use strm_num::NoMemory;

@@ -1,12 +1,12 @@
 //! Statements, each on lines of its own.
 
-ghost use Rattle.std.specs.Prelude.{◌≡◌, ◌≤◌, ◌++◌, OnOk};
-ghost use Rattle.strymonas_run.specs.StatementCopies.{operand_of, test_of, statement_of, block_of};
-ghost use Rattle.strymonas_run.specs.Layout.{set_text, read_text, guard_text, loop_head_text, statement_text, block_text};
+ghost use Rattle.std.specs.Prelude.{◌≡◌, ◌≤◌, ◌++◌, codes, OnOk};
+ghost use Rattle.loop_ir.specs.StatementCopies.{operand_of, test_of, statement_of, block_of};
+ghost use Rattle.loop_ir.specs.Layout.{indent, set_text, read_text, return_text, choice_text, guard_text, loop_head_text, statement_text, block_text};
 
 use super::operands::{put_operand, put_test};
 use super::pieces::{inside, put, put_indent, put_numbered};
-use crate::loop_ir::{Stmt, T, W};
+use loop_ir::{Stmt, T, Verdict, W};
 use strm_num::NoMemory;
 
 fn put_set(out: &mut Vec<u8>, v: u32, w: &W) -> Result<(), NoMemory>
@@ -26,6 +26,42 @@ fn put_read(out: &mut Vec<u8>, v: u32, a: u32, w: &W) -> Result<(), NoMemory>
     put(out, b"[")?;
     put_operand(out, w)?;
     put(out, b"];\n")
+}
+
+fn put_return(out: &mut Vec<u8>, v: Verdict) -> Result<(), NoMemory>
+    ensures { OnOk result (out.new.items ≡ out.old.items ++ return_text v) }
+{
+    match v {
+        Verdict::Done => put(out, b"return 0;\n"),
+        Verdict::Trap => put(out, b"return 1;\n"),
+    }
+}
+
+/// Puts the line that begins a choice.
+fn put_choice(out: &mut Vec<u8>, t: &T) -> Result<(), NoMemory>
+    ensures { OnOk result (out.new.items ≡ out.old.items ++ choice_text (test_of t.now)) }
+{
+    put(out, b"if ")?;
+    put_test(out, t)?;
+    put(out, b" {\n")
+}
+
+/// Puts the line between the two arms of a choice.
+fn put_else(out: &mut Vec<u8>, blanks: usize) -> Result<(), NoMemory>
+    requires { blanks ≤ 32 }
+    ensures { OnOk result (out.new.items ≡ out.old.items ++ (indent blanks ++ codes "} else {\n")) }
+{
+    put_indent(out, blanks)?;
+    put(out, b"} else {\n")
+}
+
+/// Puts the line that ends a loop or a choice.
+fn put_end(out: &mut Vec<u8>, blanks: usize) -> Result<(), NoMemory>
+    requires { blanks ≤ 32 }
+    ensures { OnOk result (out.new.items ≡ out.old.items ++ (indent blanks ++ codes "}\n")) }
+{
+    put_indent(out, blanks)?;
+    put(out, b"}\n")
 }
 
 /// Puts the line that ends a loop where its test fails.
@@ -56,11 +92,17 @@ fn put_statement(out: &mut Vec<u8>, s: &Stmt, blanks: usize) -> Result<(), NoMem
     match s {
         Stmt::Set(v, w) => put_set(out, *v, w),
         Stmt::Read(v, a, w) => put_read(out, *v, *a, w),
+        Stmt::If(t, a, b) => {
+            put_choice(out, t)?;
+            put_block(out, a.as_slice(), inside(blanks))?;
+            put_else(out, blanks)?;
+            put_block(out, b.as_slice(), inside(blanks))?;
+            put_end(out, blanks)
+        }
         Stmt::Loop(t, body) => {
             put_loop_head(out, t, blanks)?;
             put_block(out, body.as_slice(), inside(blanks))?;
-            put_indent(out, blanks)?;
-            put(out, b"}\n")
+            put_end(out, blanks)
         }
         Stmt::Emit(w) => {
             put(out, b"EMIT(")?;
@@ -68,6 +110,7 @@ fn put_statement(out: &mut Vec<u8>, s: &Stmt, blanks: usize) -> Result<(), NoMem
             put(out, b");\n")
         }
         Stmt::EndRow => put(out, b"ENDROW();\n"),
+        Stmt::Ret(v) => put_return(out, *v),
     }
 }
 

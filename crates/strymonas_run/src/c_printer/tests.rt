@@ -1,5 +1,5 @@
 use super::print_c;
-use crate::loop_ir::{Prog, Stmt, Stmts, T, W, WOp};
+use loop_ir::{Prog, Stmt, Stmts, T, W, WOp};
 use std::test::Fail;
 use strm_num::List;
 

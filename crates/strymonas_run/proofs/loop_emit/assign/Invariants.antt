@@ -1,7 +1,7 @@
 use Rattle.std.proofs.Common.{◌≡◌, ◌+◌, drop}
 use Rattle.list_denotation.specs.Copies.{terms_of}
-use Rattle.strymonas_run.specs.Statements.{join}
-use Rattle.strymonas_run.specs.StatementCopies.{block_of}
+use Rattle.loop_ir.specs.Statements.{join}
+use Rattle.loop_ir.specs.StatementCopies.{block_of}
 use Rattle.strymonas_run.specs.Emission.{assignments}
 use Rattle.strymonas_run.proofs.loop_emit.assign.Given as goal
 

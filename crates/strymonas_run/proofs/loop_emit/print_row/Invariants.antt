@@ -1,6 +1,6 @@
 use Rattle.std.proofs.Common.{◌≡◌, drop}
-use Rattle.strymonas_run.specs.Statements.{join}
-use Rattle.strymonas_run.specs.StatementCopies.{block_of}
+use Rattle.loop_ir.specs.Statements.{join}
+use Rattle.loop_ir.specs.StatementCopies.{block_of}
 use Rattle.strymonas_run.specs.Emission.{print_block}
 use Rattle.strymonas_run.proofs.loop_emit.print_row.Given as goal
 

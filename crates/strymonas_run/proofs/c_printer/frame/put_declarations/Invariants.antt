@@ -1,5 +1,5 @@
 use Rattle.std.proofs.Common.{◌≡◌, ◌-◌, ◌++◌}
-use Rattle.strymonas_run.specs.Layout.{declarations_text}
+use Rattle.loop_ir.specs.Layout.{declarations_text}
 use Rattle.strymonas_run.proofs.c_printer.frame.put_declarations.Given as goal
 
 -- what is there and the declarations left are all of them

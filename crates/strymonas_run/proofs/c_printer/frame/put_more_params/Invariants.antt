@@ -1,5 +1,5 @@
 use Rattle.std.proofs.Common.{◌≡◌, ◌++◌, drop}
-use Rattle.strymonas_run.specs.Layout.{more_params_text}
+use Rattle.loop_ir.specs.Layout.{more_params_text}
 use Rattle.strymonas_run.proofs.c_printer.frame.put_more_params.Given as goal
 
 -- what is there and the parameters left are all but the first

@@ -1,6 +1,6 @@
 use Rattle.std.proofs.Common.{◌≡◌, ◌++◌, drop}
-use Rattle.strymonas_run.specs.StatementCopies.{block_of}
-use Rattle.strymonas_run.specs.Layout.{block_text}
+use Rattle.loop_ir.specs.StatementCopies.{block_of}
+use Rattle.loop_ir.specs.Layout.{block_text}
 use Rattle.strymonas_run.proofs.c_printer.statements.+statements.Given as goal
 
 -- what is there and the text of the statements left are the text of all

@@ -2,8 +2,9 @@
 use Rattle.std.proofs.Common.{◌≡◌, ℕ, List, [], ◌++◌, refl, sym, ap, ◌∙◌, append_assoc}
 use Rattle.list_denotation.specs.declared.event.Event.{Event}
 use Rattle.list_denotation.specs.declared.input.Input.{Input}
-use Rattle.strymonas_run.specs.Statements.{Block, Nil, Cons, join}
-use Rattle.strymonas_run.specs.Meaning.{Outcome, Runs, Over, after, then_do, run_one, run}
+use Rattle.list_denotation.specs.Observation.{Standing}
+use Rattle.loop_ir.specs.Statements.{Block, Nil, Cons, join}
+use Rattle.loop_ir.specs.Meaning.{Outcome, Runs, Over, after, then_do, run_one, run}
 
 pub after_nothing : (o : Outcome) → after [] o ≡ o
 after_nothing (Runs events env left) = refl
@@ -30,3 +31,7 @@ module _ (inputs : List Input) where
   -- statements that go on with these events lead to those after them
   pub goes_on : (ss more : Block) (events : List Event) (env env' : List ℕ) (left : ℕ) → run inputs ss env left ≡ Runs events env' left → run inputs (join ss more) env left ≡ after events (run inputs more env' left)
   goes_on ss more events env env' left h = run_join ss more env left ∙ ap (λ o. then_do o (run inputs more)) h
+
+  -- statements that end the run are all that is run
+  pub is_over : (ss more : Block) (events : List Event) (standing : Standing) (env : List ℕ) (left : ℕ) → run inputs ss env left ≡ Over events standing → run inputs (join ss more) env left ≡ Over events standing
+  is_over ss more events standing env left h = run_join ss more env left ∙ ap (λ o. then_do o (run inputs more)) h

@@ -3,10 +3,10 @@ use Rattle.std.specs.Prelude.{◌≡◌, refl, [], ◌∷◌, ◌++◌, codes}
 use Rattle.std.specs.Fmt.{digits}
 use Rattle.list_denotation.specs.declared.event.Event.TheVariants as event
 use Rattle.list_denotation.specs.Observation.{Done, Going}
-use Rattle.strymonas_run.specs.declared.loop_ir.syntax.WOp.TheVariants as op
-use Rattle.strymonas_run.specs.Statements.{Const, Var, Bin, Less, Set, Loop, Emit, EndRow, Nil, Cons, Routine}
-use Rattle.strymonas_run.specs.Meaning.{meaning}
-use Rattle.strymonas_run.specs.Layout.{layout}
+use Rattle.loop_ir.specs.declared.syntax.WOp.TheVariants as op
+use Rattle.loop_ir.specs.Statements.{Const, Var, Bin, Less, Set, Loop, Emit, EndRow, Nil, Cons, Routine}
+use Rattle.loop_ir.specs.Meaning.{meaning}
+use Rattle.loop_ir.specs.Layout.{layout}
 
 abbrev pub counts_to_two : Routine
 counts_to_two = record {

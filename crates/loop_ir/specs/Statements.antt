@@ -1,24 +1,30 @@
 -- Plain copies of loop programs. Every definition speaks of these.
 use Rattle.std.specs.Prelude.{ℕ, List}
 use Rattle.list_denotation.specs.declared.input.InputKind.{InputKind}
-use Rattle.strymonas_run.specs.declared.loop_ir.syntax.WOp.{WOp}
+use Rattle.loop_ir.specs.declared.syntax.WOp.{WOp}
+use Rattle.loop_ir.specs.declared.syntax.Verdict.{Verdict}
 
 -- a word
 pub data Operand : Type 0 where
-  Const Var Len : ℕ → Operand
+  Const Var Len Int : ℕ → Operand
   Bin : WOp → Operand → Operand → Operand
 
+-- a test of words
 pub data Test : Type 0 where
-  Less : Operand → Operand → Test
+  Less Same : Operand → Operand → Test
+  Both Either : Test → Test → Test
+  Not : Test → Test
 
 -- a statement, and statements in order
 mutual
   pub data Statement : Type 0 where
     Set : ℕ → Operand → Statement
     Read : ℕ → ℕ → Operand → Statement
+    If : Test → Block → Block → Statement
     Loop : Test → Block → Statement
     Emit : Operand → Statement
     EndRow : Statement
+    Ret : Verdict → Statement
 
   pub data Block : Type 0 where
     Nil : Block

@@ -2,24 +2,33 @@
 use Rattle.std.specs.Prelude.{ℕ, zero, suc, ◌+◌, List, [], ◌∷◌, ◌++◌, codes, decimal, min, replicate}
 use Rattle.list_denotation.specs.declared.input.InputKind.{InputKind}
 use Rattle.list_denotation.specs.declared.input.InputKind.TheVariants as kind
-use Rattle.strymonas_run.specs.declared.loop_ir.syntax.WOp.{WOp}
-use Rattle.strymonas_run.specs.declared.loop_ir.syntax.WOp.TheVariants as op
-use Rattle.strymonas_run.specs.Statements.{Operand, Const, Var, Len, Bin, Test, Less, Statement, Set, Read, Loop, Emit, EndRow, Block, Nil, Cons, Routine}
+use Rattle.loop_ir.specs.declared.syntax.WOp.{WOp}
+use Rattle.loop_ir.specs.declared.syntax.WOp.TheVariants as op
+use Rattle.loop_ir.specs.declared.syntax.Verdict.{Verdict}
+use Rattle.loop_ir.specs.declared.syntax.Verdict.TheVariants as verdict
+use Rattle.loop_ir.specs.Statements.{Operand, Const, Var, Len, Int, Bin, Test, Less, Same, Both, Either, Not, Statement, Set, Read, If, Loop, Emit, EndRow, Ret, Block, Nil, Cons, Routine}
 
 abbrev pub operator_text : WOp → List ℕ
 operator_text op.Add = codes " + "
 operator_text op.Sub = codes " - "
 operator_text op.Mul = codes " * "
+operator_text op.Div = codes " / "
+operator_text op.Rem = codes " % "
 operator_text op.Xor = codes " ^ "
 
 abbrev pub operand_text : Operand → List ℕ
 operand_text (Const n) = decimal n ++ codes "ULL"
 operand_text (Var v) = codes "v" ++ decimal v
 operand_text (Len a) = codes "n" ++ decimal a
+operand_text (Int k) = codes "i" ++ decimal k
 operand_text (Bin op a b) = codes "(" ++ operand_text a ++ operator_text op ++ operand_text b ++ codes ")"
 
 abbrev pub test_text : Test → List ℕ
 test_text (Less a b) = codes "(" ++ operand_text a ++ codes " < " ++ operand_text b ++ codes ")"
+test_text (Same a b) = codes "(" ++ operand_text a ++ codes " == " ++ operand_text b ++ codes ")"
+test_text (Both a b) = codes "(" ++ test_text a ++ codes " && " ++ test_text b ++ codes ")"
+test_text (Either a b) = codes "(" ++ test_text a ++ codes " || " ++ test_text b ++ codes ")"
+test_text (Not a) = codes "(!" ++ test_text a ++ codes ")"
 
 -- the front of a line
 abbrev pub indent : ℕ → List ℕ
@@ -35,6 +44,14 @@ set_text v w = codes "v" ++ decimal v ++ codes " = " ++ operand_text w ++ codes 
 abbrev pub read_text : ℕ → ℕ → Operand → List ℕ
 read_text v a w = codes "v" ++ decimal v ++ codes " = a" ++ decimal a ++ codes "[" ++ operand_text w ++ codes "];\n"
 
+abbrev pub return_text : Verdict → List ℕ
+return_text verdict.Done = codes "return 0;\n"
+return_text verdict.Trap = codes "return 1;\n"
+
+-- the line that begins a choice
+abbrev pub choice_text : Test → List ℕ
+choice_text t = codes "if " ++ test_text t ++ codes " {\n"
+
 -- the line that ends a loop where its test fails
 abbrev pub guard_text : Test → List ℕ
 guard_text t = codes "if " ++ test_text t ++ codes " { } else { break; }\n"
@@ -47,10 +64,14 @@ abbrev mutual
   pub statement_text : Statement → ℕ → List ℕ
   statement_text (Set v w) blanks = indent blanks ++ set_text v w
   statement_text (Read v a w) blanks = indent blanks ++ read_text v a w
+  statement_text (If t a b) blanks =
+      indent blanks ++ choice_text t ++ block_text a (deeper blanks)
+      ++ indent blanks ++ codes "} else {\n" ++ block_text b (deeper blanks) ++ indent blanks ++ codes "}\n"
   statement_text (Loop t body) blanks =
       indent blanks ++ loop_head_text t blanks ++ block_text body (deeper blanks) ++ indent blanks ++ codes "}\n"
   statement_text (Emit w) blanks = indent blanks ++ codes "EMIT(" ++ operand_text w ++ codes ");\n"
   statement_text EndRow blanks = indent blanks ++ codes "ENDROW();\n"
+  statement_text (Ret v) blanks = indent blanks ++ return_text v
 
   pub block_text : Block → ℕ → List ℕ
   block_text Nil blanks = []

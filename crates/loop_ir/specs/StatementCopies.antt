@@ -1,22 +1,27 @@
 -- The plain copies of the code's loop programs.
 use Rattle.std.specs.Prelude.{List, [], ◌∷◌, map}
-use Rattle.strymonas_run.specs.declared.loop_ir.syntax.W.{W}
-use Rattle.strymonas_run.specs.declared.loop_ir.syntax.W.TheVariants as w
-use Rattle.strymonas_run.specs.declared.loop_ir.syntax.T.{T}
-use Rattle.strymonas_run.specs.declared.loop_ir.syntax.T.TheVariants as t
-use Rattle.strymonas_run.specs.declared.loop_ir.syntax.Stmt.{Stmt}
-use Rattle.strymonas_run.specs.declared.loop_ir.syntax.Stmt.TheOpen.{Stmt-F}
-use Rattle.strymonas_run.specs.declared.loop_ir.syntax.Stmt.TheFolds.{fold-Stmt}
-use Rattle.strymonas_run.specs.Statements.{Operand, Const, Var, Len, Bin, Test, Less, Statement, Set, Read, Loop, Emit, EndRow, Block, Nil, Cons}
+use Rattle.loop_ir.specs.declared.syntax.W.{W}
+use Rattle.loop_ir.specs.declared.syntax.W.TheVariants as w
+use Rattle.loop_ir.specs.declared.syntax.T.{T}
+use Rattle.loop_ir.specs.declared.syntax.T.TheVariants as t
+use Rattle.loop_ir.specs.declared.syntax.Stmt.{Stmt}
+use Rattle.loop_ir.specs.declared.syntax.Stmt.TheOpen.{Stmt-F}
+use Rattle.loop_ir.specs.declared.syntax.Stmt.TheFolds.{fold-Stmt}
+use Rattle.loop_ir.specs.Statements.{Operand, Const, Var, Len, Int, Bin, Test, Less, Same, Both, Either, Not, Statement, Set, Read, If, Loop, Emit, EndRow, Ret, Block, Nil, Cons}
 
 abbrev pub operand_of : W → Operand
 operand_of (w.Const n) = Const n
 operand_of (w.Var v) = Var v
 operand_of (w.Len a) = Len a
+operand_of (w.Int k) = Int k
 operand_of (w.Bin' op p a q b) = Bin op (operand_of a) (operand_of b)
 
 abbrev pub test_of : T → Test
 test_of (t.Less a b) = Less (operand_of a) (operand_of b)
+test_of (t.Same a b) = Same (operand_of a) (operand_of b)
+test_of (t.Both' p a q b) = Both (test_of a) (test_of b)
+test_of (t.Either' p a q b) = Either (test_of a) (test_of b)
+test_of (t.Not' p a) = Not (test_of a)
 
 -- a list of plain statements as a block
 abbrev pub listed : List Statement → Block
@@ -27,9 +32,11 @@ listed (s ∷ ss) = Cons s (listed ss)
 abbrev pub statement_step : Stmt-F Statement → Statement
 statement_step (Stmt-F.Set v w) = Set v (operand_of w)
 statement_step (Stmt-F.Read v a w) = Read v a (operand_of w)
+statement_step (Stmt-F.If t a b) = If (test_of t) (listed a) (listed b)
 statement_step (Stmt-F.Loop t body) = Loop (test_of t) (listed body)
 statement_step (Stmt-F.Emit w) = Emit (operand_of w)
 statement_step Stmt-F.EndRow = EndRow
+statement_step (Stmt-F.Ret v) = Ret v
 
 abbrev pub statement_of : Stmt → Statement
 statement_of = fold-Stmt Statement statement_step
