@@ -1,0 +1,3 @@
+pub mod Distinctness
+pub mod Places
+pub mod Scopes

@@ -1,0 +1,119 @@
+ghost use Rattle.std.specs.Prelude.{◌≡◌, ℕ, ◌+◌, ◌-◌, ◌<◌, ◌≤◌, ◌^◌, [], ◌∷◌, ◌++◌, length, take, slice_get, OnOk, OnErr, IfOk, Some};
+ghost use Rattle.std.specs.List.{range_with_len};
+ghost use Rattle.state_alloc.specs.Layouts.{IsLaidOut, IsWordVariable, IsFresh};
+
+use loop_ir::Words;
+use std::alloc::Global;
+use strm_num::NoMemory;
+
+/// The variable of each bound word of a scope, and which variables are temporaries.
+///
+/// It keeps, in `laid_out`, that the temporaries are below `next`, and that the variable of each
+/// bound word is below `next` and is no temporary.
+#[derive(Debug, Drop)]
+pub struct Slots {
+    /// Item `k` is the variable of word `k`, which fits 32 bits.
+    pub rows: Words,
+    /// The first temporary.
+    pub first_temp: u32,
+    /// The number of temporaries, which are `first_temp`, `first_temp + 1`, and so on.
+    pub temps: u32,
+    /// The first variable that was never given out. It only grows.
+    pub next: u32,
+    pub ghost laid_out: { IsLaidOut rows first_temp temps next },
+}
+
+impl Slots {
+    /// A scope without words, whose temporaries are the first `temps` variables. It takes no memory.
+    pub fn new(alloc: Global, temps: u32) -> Slots
+        ensures rows { result.rows ≡ [] }
+        ensures first_temp { result.first_temp ≡ 0 }
+        ensures temps { result.temps ≡ temps }
+        ensures next { result.next ≡ temps }
+    {
+        Slots {
+            rows: Words::new(alloc),
+            first_temp: 0,
+            temps,
+            next: temps,
+        }
+    }
+
+    /// Binds `width` more words to the variables from `next` on, and gives the first of these, which
+    /// is the old `next`. All words bound before and all temporaries stand in variables below it.
+    /// A refused bind changes nothing.
+    pub fn bind(&mut self, width: u32) -> Result<u32, NoMemory>
+        requires { self.old.next + width < 2 ^ 32 }
+        ensures first { IfOk result (λ first. first ≡ self.old.next) }
+        ensures fresh { IfOk result (λ first. IsFresh self.old.rows self.old.first_temp self.old.temps first) }
+        ensures rows { OnOk result (self.new.rows ≡ self.old.rows ++ range_with_len self.old.next width) }
+        ensures next { OnOk result (self.new.next ≡ self.old.next + width) }
+        ensures first_temp { self.new.first_temp ≡ self.old.first_temp }
+        ensures temps { self.new.temps ≡ self.old.temps }
+        ensures refused { OnErr result (self.new ≡ self.old) }
+    {
+        let first = self.next;
+        push_variables(&mut self.rows, first, width)?;
+        self.next = first + width;
+        Ok(first)
+    }
+
+    /// Binds one more word to a variable that a bound word has already. A refused alias changes
+    /// nothing.
+    pub fn alias(&mut self, var: u32) -> Result<(), NoMemory>
+        requires { (k : ℕ) × (slice_get self.old.rows k ≡ Some var) }
+        ensures rows { OnOk result (self.new.rows ≡ self.old.rows ++ var ∷ []) }
+        ensures first_temp { self.new.first_temp ≡ self.old.first_temp }
+        ensures temps { self.new.temps ≡ self.old.temps }
+        ensures next { self.new.next ≡ self.old.next }
+        ensures refused { OnErr result (self.new ≡ self.old) }
+    {
+        self.rows.push(u64::from(var))
+    }
+
+    /// Gives up the last `width` words. Their variables are never given again, since `next` stays.
+    /// It takes no memory.
+    pub fn unbind(&mut self, width: u32)
+        requires { width ≤ length self.old.rows }
+        ensures rows { self.new.rows ≡ take (length self.old.rows - width) self.old.rows }
+        ensures first_temp { self.new.first_temp ≡ self.old.first_temp }
+        ensures temps { self.new.temps ≡ self.old.temps }
+        ensures next { self.new.next ≡ self.old.next }
+    {
+        drop_last(&mut self.rows, width);
+    }
+
+    /// The variable of word `k`, counted from 0, which is no temporary. It takes no memory.
+    pub fn var_of(&self, k: u32) -> u32
+        requires { k < length self.now.rows }
+        ensures row { slice_get self.now.rows k ≡ Some result }
+        ensures apart { IsWordVariable self.now.first_temp self.now.temps self.now.next result }
+    {
+        *self.rows.get(u64::from(k)) as u32
+    }
+}
+
+// Adds `width` variables from `first` on at the end. A refused call changes nothing.
+fn push_variables(rows: &mut Words, first: u32, width: u32) -> Result<(), NoMemory>
+    requires { first + width < 2 ^ 32 }
+    ensures ok { OnOk result (rows.new ≡ rows.old ++ range_with_len first width) }
+    ensures err { OnErr result (rows.new ≡ rows.old) }
+{
+    for i in 0..width {
+        if let Err(refused) = rows.push(u64::from(first + i)) {
+            drop_last(rows, i);
+            return Err(refused);
+        }
+    }
+    Ok(())
+}
+
+// Takes the last `width` items off.
+fn drop_last(rows: &mut Words, width: u32)
+    requires { width ≤ length rows.old }
+    ensures { rows.new ≡ take (length rows.old - width) rows.old }
+{
+    for _i in 0..width {
+        let _gone = rows.pop();
+    }
+}
