@@ -1,0 +1,190 @@
+-- How many statements and temporaries an expression takes.
+use Rattle.std.proofs.Common.{◌≡◌, ℕ, ◌+◌, ◌*◌, ◌≤◌, List, Option, Some, None, zero, suc, Bool, true, false, ◌&&◌, refl, arith}
+use Rattle.std.specs.Prelude.{if◌then◌else◌}
+use Rattle.list_denotation.specs.declared.expr.BinOp.{BinOp}
+use Rattle.list_denotation.specs.declared.expr.BinOp.TheVariants as sign
+use Rattle.list_denotation.specs.Terms.{Term, Neg, Not, Bin, And, Or, If}
+use Rattle.list_denotation.specs.Counts.{term_nodes, term_depth}
+use Rattle.loop_ir.specs.declared.syntax.WOp.{WOp}
+use Rattle.loop_ir.specs.declared.syntax.Verdict.{Verdict}
+use Rattle.loop_ir.specs.Statements as s
+use Rattle.loop_ir.specs.Statements.{Operand, Test, Set, Ret, Block, Nil, Cons, join}
+use Rattle.loop_ir.specs.Counts.{block_count, block_loops}
+use Rattle.expr_lower.specs.Phrases.{Division, set, set_truth, by_dividend, by_divisor}
+use Rattle.expr_lower.specs.Lowering.{Form, AWord, ATest, InTarget, Lowered, is_word, operand_rest, operand_block, target_rest, into, is_simple, as_word, in_target, lowered_minus, lowered_arithmetic, lowered_comparison, held_block, lowered_division, lowered_operation, is_empty, lowered_and, lowered_or, lowered, lowered_into}
+use Rattle.expr_lower.specs.Costs.{operation_cost, cost, is_direct, temps_of}
+use Rattle.loop_ir.proofs.JoinedBlocks.{count_join, loops_join}
+
+-- ---- statements
+
+-- a size of statements, where each assignment, choice and return adds u
+record IsSize (size : Block → ℕ) (u : ℕ) : Type 0 where
+  of_nil : size Nil ≡ 0
+  of_set : (v : ℕ) (w : Operand) (ss : Block) → size (Cons (Set v w) ss) ≡ size ss + u
+  of_if : (t : Test) (a b ss : Block) → size (Cons (s.If t a b) ss) ≡ size a + size b + size ss + u
+  of_ret : (r : Verdict) (ss : Block) → size (Cons (Ret r) ss) ≡ size ss + u
+  of_join : (b more : Block) → size (join b more) ≡ size b + size more
+
+-- each lemma bounds the size of statements by that of their parts
+module _ (size : Block → ℕ) (u : ℕ) (is : IsSize size u) where
+  -- ---- phrases
+
+  set_size : (v : ℕ) (w : Operand) → size (set v w) ≡ u
+  set_size v w = omega (arith, is.of_nil, is.of_set)
+
+  -- a single choice
+  if_size : (t : Test) (a b : Block) → size (Cons (s.If t a b) Nil) ≡ size a + size b + u
+  if_size t a b = omega (arith, is.of_nil, is.of_if)
+
+  truth_size : (v : ℕ) (t : Test) → size (set_truth v t) ≡ u * 3
+  truth_size v t = omega (arith, if_size, set_size)
+
+  -- a quotient or remainder, once the divisor is known and from its test on
+  dividend_size : (d : Division) (dividend : Option ℕ) (x y : Operand) (divisor : Bool) (v : ℕ) → size (by_dividend d dividend x y divisor v) ≤ u * 3
+  dividend_size d (Some c) x y divisor v = omega (arith, set_size)
+  dividend_size d None x y divisor v = omega (arith, if_size, set_size)
+
+  divisor_size : (d : Division) (dividend divisor : Option ℕ) (x y : Operand) (v : ℕ) → size (by_divisor d dividend divisor x y v) ≤ u * 9
+  divisor_size d dividend (Some zero) x y v = omega (arith, is.of_ret, is.of_nil)
+  divisor_size d dividend (Some (suc c)) x y v = omega (arith, dividend_size)
+  divisor_size d dividend None x y v = omega (arith, is.of_if, is.of_ret, is.of_nil, if_size, dividend_size)
+
+  -- ---- forms: what leaves an operand is no larger than what puts the value into the target
+
+  rest_within : (f : Form) (v : ℕ) → size (operand_rest f v) ≤ size (target_rest f v)
+  rest_within (AWord w) v = omega (arith, is.of_nil)
+  rest_within (ATest t) v = omega arith
+  rest_within InTarget v = omega arith
+
+  operand_within : (l : Lowered) (v : ℕ) → size (operand_block l v) ≤ size (into l v)
+  operand_within l v = omega (arith, is.of_join, rest_within)
+
+  block_within : (l : Lowered) (v : ℕ) → size l.block ≤ size (into l v)
+  block_within l v = omega (arith, is.of_join)
+
+  -- ---- expressions, from their parts
+
+  -- a word, or statements that put a value into the target
+  word_size : (c : Bool) (w : Operand) (b : Block) (v n : ℕ) → u ≤ n → size b ≤ n → size (into (if c then as_word w else in_target b) v) ≤ n
+  word_size true w b v n one h = omega (arith, is.of_join, is.of_nil, set_size)
+  word_size false w b v n one h = omega (arith, is.of_join, is.of_nil)
+
+  -- a test, or statements that put a value into the target
+  test_size : (c : Bool) (t : Test) (b more : Block) (v n : ℕ) → size b + u * 3 ≤ n → size more ≤ n → size (into (if c then record { block = b; form = ATest t } else in_target more) v) ≤ n
+  test_size true t b more v n h k = omega (arith, is.of_join, truth_size)
+  test_size false t b more v n h k = omega (arith, is.of_join, is.of_nil)
+
+  minus_size : (a : Lowered) (v : ℕ) → size (into (lowered_minus a v) v) ≤ size (into a v) + u
+  minus_size a v = word_size (is_word a.form) _ _ v (size (into a v) + u) (omega arith) (omega (arith, is.of_join, operand_within, set_size))
+
+  arithmetic_size : (o : WOp) (a b : Lowered) (v t : ℕ) → size (into (lowered_arithmetic o a b v t) v) ≤ size (into a v) + size (into b t) + u
+  arithmetic_size o a b v t =
+      word_size (is_word a.form && is_word b.form) _ _ v (size (into a v) + size (into b t) + u) (omega arith)
+      (omega (arith, is.of_join, operand_within, set_size))
+
+  comparison_size : (o : BinOp) (a b : Lowered) (v t : ℕ) → size (into (lowered_comparison o a b v t) v) ≤ size (into a v) + size (into b t) + u * 3
+  comparison_size o a b v t = omega (arith, is.of_join, operand_within, truth_size)
+
+  held_size : (e : Term) (l : Lowered) (v : ℕ) → size (held_block e l v) ≤ size (into l v)
+  held_size e l v =
+      elim (is_simple e) as (λ c. size (if c then Nil else into l v) ≤ size (into l v)) [ true ↦ omega (arith, is.of_nil) | false ↦ omega arith ]
+
+  division_size : (d : Division) (x y : Term) (a b : Lowered) (v t : ℕ) → size (into (lowered_division d x y a b v t) v) ≤ size (into a v) + size (into b t) + u * 9
+  division_size d x y a b v t = omega (arith, is.of_join, is.of_nil, held_size, divisor_size)
+
+  operation_size : (o : BinOp) (x y : Term) (a b : Lowered) (v t : ℕ) → size (into (lowered_operation o x y a b v t) v) ≤ size (into a v) + size (into b t) + u * operation_cost o
+  operation_size sign.Add x y a b v t = omega (arith, arithmetic_size)
+  operation_size sign.Sub x y a b v t = omega (arith, arithmetic_size)
+  operation_size sign.Mul x y a b v t = omega (arith, arithmetic_size)
+  operation_size sign.Div x y a b v t = omega (arith, division_size)
+  operation_size sign.Rem x y a b v t = omega (arith, division_size)
+  operation_size sign.Eq x y a b v t = omega (arith, comparison_size)
+  operation_size sign.Ne x y a b v t = omega (arith, comparison_size)
+  operation_size sign.Lt x y a b v t = omega (arith, comparison_size)
+  operation_size sign.Le x y a b v t = omega (arith, comparison_size)
+  operation_size sign.Gt x y a b v t = omega (arith, comparison_size)
+  operation_size sign.Ge x y a b v t = omega (arith, comparison_size)
+
+  and_size : (a b : Lowered) (v : ℕ) → size (into (lowered_and a b v) v) ≤ size (into a v) + size (into b v) + u * 5
+  and_size a b v =
+      test_size (is_empty b.block) _ _ _ v (size (into a v) + size (into b v) + u * 5) (omega (arith, block_within))
+      (omega (arith, is.of_join, block_within, if_size, truth_size, set_size))
+
+  or_size : (a b : Lowered) (v : ℕ) → size (into (lowered_or a b v) v) ≤ size (into a v) + size (into b v) + u * 5
+  or_size a b v =
+      test_size (is_empty b.block) _ _ _ v (size (into a v) + size (into b v) + u * 5) (omega (arith, block_within))
+      (omega (arith, is.of_join, block_within, if_size, truth_size, set_size))
+
+  -- the size of an expression's statements is within its cost
+  size_within : (rows : List ℕ) (e : Term) (v t : ℕ) → size (lowered_into rows e v t) ≤ u * cost e
+  size_within rows (Neg a) v t = omega (arith, minus_size (lowered rows a v t) v, size_within rows a v t)
+  size_within rows (Not a) v t = omega (arith, is.of_join, truth_size, block_within (lowered rows a v t) v, size_within rows a v t)
+  size_within rows (Bin o a b) v t =
+      omega (arith, operation_size o a b (lowered rows a v t) (lowered rows b t (t + 1)) v t, size_within rows a v t, size_within rows b t (t + 1))
+  size_within rows (And a b) v t = omega (arith, and_size (lowered rows a v t) (lowered rows b v t) v, size_within rows a v t, size_within rows b v t)
+  size_within rows (Or a b) v t = omega (arith, or_size (lowered rows a v t) (lowered rows b v t) v, size_within rows a v t, size_within rows b v t)
+  size_within rows (If c a b) v t =
+      omega (arith, is.of_join, is.of_nil, if_size, block_within (lowered rows c v t) v, size_within rows c v t, size_within rows a v t, size_within rows b v t)
+  size_within rows _ v t = omega (arith, is.of_join, is.of_nil, set_size)
+
+count_size : IsSize block_count 1
+count_size = record {
+  of_nil = refl;
+  of_set = λ v w ss. omega arith;
+  of_if = λ t a b ss. omega arith;
+  of_ret = λ r ss. omega arith;
+  of_join = count_join;
+}
+
+-- an expression has no more statements than it costs
+pub few_statements : (rows : List ℕ) (e : Term) (v t : ℕ) → block_count (lowered_into rows e v t) ≤ cost e
+few_statements rows e v t = omega (arith, size_within block_count 1 count_size rows e v t)
+
+loops_size : IsSize block_loops 0
+loops_size = record {
+  of_nil = refl;
+  of_set = λ v w ss. omega arith;
+  of_if = λ t a b ss. omega arith;
+  of_ret = λ r ss. omega arith;
+  of_join = loops_join;
+}
+
+-- and no loops
+pub no_loops : (rows : List ℕ) (e : Term) (v t : ℕ) → block_loops (lowered_into rows e v t) ≡ 0
+no_loops rows e v t = omega (arith, size_within block_loops 0 loops_size rows e v t)
+
+-- the cost of an operation is at most that of a division
+operation_within : (o : BinOp) → operation_cost o ≤ 9
+operation_within sign.Add = omega arith
+operation_within sign.Sub = omega arith
+operation_within sign.Mul = omega arith
+operation_within sign.Div = omega arith
+operation_within sign.Rem = omega arith
+operation_within _ = omega arith
+
+-- at most 9 statements for each node
+pub cost_nodes : (e : Term) → cost e ≤ 9 * term_nodes e
+cost_nodes (Neg a) = omega (arith, cost_nodes a)
+cost_nodes (Not a) = omega (arith, cost_nodes a)
+cost_nodes (Bin o a b) = omega (arith, cost_nodes a, cost_nodes b, operation_within o)
+cost_nodes (And a b) = omega (arith, cost_nodes a, cost_nodes b)
+cost_nodes (Or a b) = omega (arith, cost_nodes a, cost_nodes b)
+cost_nodes (If c a b) = omega (arith, cost_nodes c, cost_nodes a, cost_nodes b)
+cost_nodes _ = omega arith
+
+-- ---- temporaries
+
+-- at most one more than those of a right operand that is kept
+kept_within : (c : Bool) (n : ℕ) → (if c then 0 else n + 1) ≤ n + 1
+kept_within true n = omega arith
+kept_within false n = omega arith
+
+-- at most one for each level of depth
+pub temps_depth : (e : Term) → temps_of e ≤ term_depth e
+temps_depth (Neg a) = omega (arith, temps_depth a)
+temps_depth (Not a) = omega (arith, temps_depth a)
+temps_depth (Bin o a b) = omega (arith, temps_depth a, temps_depth b, kept_within (is_direct o b) (temps_of b))
+temps_depth (And a b) = omega (arith, temps_depth a, temps_depth b)
+temps_depth (Or a b) = omega (arith, temps_depth a, temps_depth b)
+temps_depth (If c a b) = omega (arith, temps_depth c, temps_depth a, temps_depth b)
+temps_depth _ = omega arith

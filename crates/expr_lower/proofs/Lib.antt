@@ -1,0 +1,15 @@
+pub mod WorkedRows
+pub mod Effects
+pub mod Plain
+pub mod PlainValues
+pub mod Uses
+pub mod Divisions
+pub mod Operands
+pub mod Lowers
+pub mod Costs
+pub mod Names
+pub mod Appends
+pub mod Parts
+pub mod Steps
+pub mod Contract
+pub mod ValueTable

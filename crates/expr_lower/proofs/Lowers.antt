@@ -1,0 +1,452 @@
+-- The statements of an expression come to its value, by one induction over the expression.
+use Rattle.std.proofs.Common.{◌≡◌, inl, ℕ, zero, suc, ◌+◌, ◌-◌, ◌<◌, ◌≤◌, ◌^◌, Bool, true, false, ◌&&◌, List, [], length, max, refl, sym, ap, ◌∙◌, subst, arith}
+use Rattle.std.specs.Prelude.{if◌then◌else◌, not, ◌==◌, bit_xor}
+use Rattle.std.proofs.Math.Nat.{mod-lt}
+use Rattle.std.proofs.lemmas.Nat.{xor_comm}
+use Rattle.strm_num.specs.Words.{negation_of, is_less, truth_of}
+use Rattle.strm_num.proofs.Signed.{less_is}
+use Rattle.list_denotation.specs.declared.expr.BinOp.{BinOp}
+use Rattle.list_denotation.specs.declared.expr.BinOp.TheVariants as sign
+use Rattle.list_denotation.specs.declared.input.Input.{Input}
+use Rattle.list_denotation.specs.Terms as term
+use Rattle.list_denotation.specs.Terms.{Term}
+use Rattle.list_denotation.specs.Values.{Got, Is, Fails, with_value, choice, divided, operation_of, value}
+use Rattle.loop_ir.specs.declared.syntax.WOp.{WOp}
+use Rattle.loop_ir.specs.Statements.{Operand, Const, Var, Len, Int, Bin, Test, Both, Either, If, Block, Nil, Cons, join}
+use Rattle.loop_ir.proofs.Copies.{join-nil}
+use Rattle.loop_ir.specs.Meaning.{Runs, operand_value, test_value, run}
+use Rattle.expr_lower.specs.Phrases.{Division, Quotient, Remainder, set, minus, set_truth, opposite, flipped, signed_less, compared, by_divisor}
+use Rattle.expr_lower.specs.Lowering.{Lowered, Form, AWord, ATest, InTarget, is_word, as_word, in_target, operand_block, operand_in, condition_in, into, constant_of, is_simple, held_block, held_in, lowered_minus, lowered_arithmetic, lowered_comparison, lowered_division, lowered_operation, is_empty, lowered}
+use Rattle.expr_lower.specs.Costs.{is_plain, is_direct, temps_of}
+use Rattle.expr_lower.specs.Scopes.{HasWords, IsApart, Kept, Stands}
+use Rattle.expr_lower.proofs.Effects.{Arrives, Comes, IsIn, then_comes, maps, nothing_comes, set_comes, first_comes, second_comes, set_truth_comes}
+use Rattle.expr_lower.proofs.Plain.{plain_form}
+use Rattle.expr_lower.proofs.PlainValues.{arithmetic_operator, arithmetic_value, arithmetic_word, truth_word}
+use Rattle.expr_lower.proofs.Divisions.{result_of, divisor_comes, minus_value}
+use Rattle.expr_lower.proofs.Uses.{is_true, HasTruth, IsFound, IsCondition, stands_still, condition_comes, target_comes, opposite_is}
+use Rattle.expr_lower.proofs.Operands.{Ready, still_ready, IsLowered, IsHeld, BothAre, plain_comes, apart_right, left_comes, held_comes, right_comes, held_right, operands_come}
+
+-- ---- comparisons
+
+abbrev pub comparison_truth : BinOp → ℕ → ℕ → Bool
+comparison_truth sign.Ne x y = not (x == y)
+comparison_truth sign.Lt x y = is_less x y
+comparison_truth sign.Le x y = not (is_less y x)
+comparison_truth sign.Gt x y = is_less y x
+comparison_truth sign.Ge x y = not (is_less x y)
+comparison_truth _ x y = x == y
+
+flipped_is : (inputs : List Input) (w : Operand) (x : ℕ) (env : List ℕ) → operand_value inputs w env ≡ Is x → operand_value inputs (flipped w) env ≡ Is (bit_xor x (2 ^ 63))
+flipped_is inputs (Const c) x env h = let same : c ≡ x = cc in ap Is (xor_comm (2 ^ 63) c ∙ ap (λ n. bit_xor n (2 ^ 63)) same)
+flipped_is inputs (Var v) x env h = ap (λ g. with_value g (λ n. Is (bit_xor n (2 ^ 63)))) h
+flipped_is inputs (Len a) x env h = ap (λ g. with_value g (λ n. Is (bit_xor n (2 ^ 63)))) h
+flipped_is inputs (Int k) x env h = ap (λ g. with_value g (λ n. Is (bit_xor n (2 ^ 63)))) h
+flipped_is inputs (Bin o a b) x env h = ap (λ g. with_value g (λ n. Is (bit_xor n (2 ^ 63)))) h
+
+signed_less_is : (inputs : List Input) (wx wy : Operand) (x y : ℕ) (env : List ℕ) → x < 2 ^ 64 → y < 2 ^ 64 → operand_value inputs wx env ≡ Is x → operand_value inputs wy env ≡ Is y → test_value inputs (signed_less wx wy) env ≡ Is (is_less x y)
+signed_less_is inputs wx wy x y env x_word y_word hx hy =
+    rw (flipped_is inputs wx x env hx, flipped_is inputs wy y env hy) (ap Is (sym (less_is x y x_word y_word)))
+
+compared_is : (inputs : List Input) (o : BinOp) (wx wy : Operand) (x y : ℕ) (env : List ℕ) → x < 2 ^ 64 → y < 2 ^ 64 → operand_value inputs wx env ≡ Is x → operand_value inputs wy env ≡ Is y → test_value inputs (compared o wx wy) env ≡ Is (comparison_truth o x y)
+compared_is inputs sign.Ne wx wy x y env x_word y_word hx hy = rw (hx, hy) refl
+compared_is inputs sign.Lt wx wy x y env x_word y_word hx hy = signed_less_is inputs wx wy x y env x_word y_word hx hy
+compared_is inputs sign.Le wx wy x y env x_word y_word hx hy =
+    ap (λ g. with_value g (λ b. Is (not b))) (signed_less_is inputs wy wx y x env y_word x_word hy hx)
+compared_is inputs sign.Gt wx wy x y env x_word y_word hx hy = signed_less_is inputs wy wx y x env y_word x_word hy hx
+compared_is inputs sign.Ge wx wy x y env x_word y_word hx hy =
+    ap (λ g. with_value g (λ b. Is (not b))) (signed_less_is inputs wx wy x y env x_word y_word hx hy)
+compared_is inputs _ wx wy x y env x_word y_word hx hy = rw (hx, hy) refl
+
+arithmetic_is : (inputs : List Input) (o : BinOp) (wx wy : Operand) (x y : ℕ) (env : List ℕ) → operand_value inputs wx env ≡ Is x → operand_value inputs wy env ≡ Is y → operand_value inputs (Bin (arithmetic_operator o) wx wy) env ≡ Is (arithmetic_value o x y)
+arithmetic_is inputs sign.Sub wx wy x y env hx hy = rw (hx, hy) refl
+arithmetic_is inputs sign.Mul wx wy x y env hx hy = rw (hx, hy) refl
+arithmetic_is inputs _ wx wy x y env hx hy = rw (hx, hy) refl
+
+negation_word : (x : ℕ) → negation_of x < 2 ^ 64
+negation_word x = mod-lt (2 ^ 64 - x) (omega arith)
+
+-- ---- what is chosen
+
+not_choice : (x : ℕ) → choice x 1 0 ≡ truth_of (not (is_true x))
+not_choice zero = refl
+not_choice (suc x) = refl
+
+truth_choice : (x : ℕ) → choice x 0 1 ≡ truth_of (is_true x)
+truth_choice zero = refl
+truth_choice (suc x) = refl
+
+module _ (rows words : List ℕ) (inputs : List Input) where
+  -- ---- the parts of an expression that is ready
+
+  left_ready : (o : BinOp) (a b : Term) (v t top : ℕ) (env : List ℕ) → Ready rows words inputs (term.Bin o a b) v t top env → Ready rows words inputs a v t top env
+  left_ready o a b v t top env ready = record {
+    has = ready.has.0;
+    outside = ready.outside;
+    room = left_room (temps_of a) (if is_direct o b then 0 else temps_of b + 1) ready.room;
+    inside = ready.inside;
+    within = ready.within;
+    apart = ready.apart.0;
+    stands = ready.stands.0;
+  }
+    where
+      left_room : (m n : ℕ) → t + max m n ≤ top → t + m ≤ top
+      left_room m n h = omega (arith, h)
+
+  right_room : (o : BinOp) (a b : Term) (t top : ℕ) → is_direct o b ≡ false → t + temps_of (term.Bin o a b) ≤ top → (t + 1) + temps_of b ≤ top
+  right_room o a b t top kept h =
+      let same : temps_of (term.Bin o a b) ≡ max (temps_of a) (temps_of b + 1) = ap (λ d. max (temps_of a) (if d then 0 else temps_of b + 1)) kept in
+      omega (arith, h, same)
+
+  right_ready : (o : BinOp) (a b : Term) (v t top : ℕ) (env : List ℕ) → is_direct o b ≡ false → Ready rows words inputs (term.Bin o a b) v t top env → (t < top) × Ready rows words inputs b t (t + 1) top env
+  right_ready o a b v t top env kept ready =
+      let room = right_room o a b t top kept ready.room in
+      let below : t < top = omega (arith, room) in (
+        below,
+        record {
+          has = ready.has.1;
+          outside = inl (omega arith);
+          room = room;
+          inside = omega (arith, below, ready.within);
+          within = ready.within;
+          apart = apart_right rows v t top b below ready.apart.1;
+          stands = ready.stands.1;
+        },
+      )
+
+  -- ---- one part
+
+  no_word : (form : Form) (v : ℕ) → is_word form ≡ false → operand_in form v ≡ Var v
+  no_word (AWord w) v h = absurd cc
+  no_word (ATest c) v h = refl
+  no_word InTarget v h = refl
+
+  as_minus : (l : Lowered) (v : ℕ) → is_word l.form ≡ false → lowered_minus l v ≡ in_target (join (operand_block l v) (set v (minus (Var v))))
+  as_minus l v h = ap (λ b. if b then as_word (minus (operand_in l.form v)) else in_target (join (operand_block l v) (set v (minus (Var v))))) h
+
+  minus_comes : (a : Term) (v t top : ℕ) (env : List ℕ) (plain : Bool) → is_plain a ≡ plain → Ready rows words inputs (term.Neg a) v t top env → Ready rows words inputs a v t top env → IsLowered rows words inputs a v t top env → IsLowered rows words inputs (term.Neg a) v t top env
+  minus_comes a v t top env true is ready part h = plain_comes rows words inputs (term.Neg a) v t top env is ready
+  minus_comes a v t top env false is ready part h =
+      let l : Lowered = lowered rows a v t in
+      let bare : is_word l.form ≡ false = plain_form rows a v t ∙ is in
+      subst (λ m. Comes inputs m.block env v t top (IsFound rows words inputs (term.Neg a) m.form v) (value (term.Neg a) words inputs)) (sym (as_minus l v bare))
+      (then_comes inputs (operand_block l v) (set v (minus (Var v))) env v t top (IsHeld rows words inputs a (operand_in l.form v) v) (IsIn inputs v) (value a words inputs) (λ x. Is (negation_of x))
+      (left_comes rows words inputs a v t top env part h)
+      (λ x env' word kept held. minus_set a l v t top x env' bare (still_ready rows words inputs a v t top env env' kept part) held))
+    where
+      minus_set : (a : Term) (l : Lowered) (v t top x : ℕ) (env' : List ℕ) → is_word l.form ≡ false → Ready rows words inputs a v t top env' → IsHeld rows words inputs a (operand_in l.form v) v x env' → Arrives inputs (set v (minus (Var v))) env' v t top (IsIn inputs v) (negation_of x)
+      minus_set a l v t top x env' bare part held =
+          set_comes inputs env' v t top (minus (Var v)) (negation_of x) part.inside (negation_word x)
+          (minus_value inputs (Var v) x env' (ap (λ w. operand_value inputs w env') (sym (no_word l.form v bare)) ∙ held.0 env' part.stands refl))
+
+  not_comes : (a : Term) (v t top : ℕ) (env : List ℕ) → Ready rows words inputs a v t top env → IsLowered rows words inputs a v t top env → IsLowered rows words inputs (term.Not a) v t top env
+  not_comes a v t top env ready h =
+      let l : Lowered = lowered rows a v t in
+      let c : Test = condition_in l.form v in
+      maps inputs l.block env v t top (IsCondition rows words inputs c) (λ x env'. HasTruth rows words inputs (opposite c) env' x) (value a words inputs) (λ x. choice x 1 0)
+      (condition_comes rows words inputs a l.block l.form v t top env (value a words inputs) ready.apart ready.stands h)
+      (λ x env' word kept is. (
+        subst (λ n. n < 2 ^ 64) (sym (not_choice x)) (truth_word (not (is_true x))),
+        record {
+          truth = not (is_true x);
+          is = opposite_is inputs c env' (is_true x) is;
+          as_word = not_choice x;
+        },
+      ))
+
+  -- ---- operations
+
+  as_arithmetic : (o : WOp) (a b : Lowered) (v t : ℕ) → (is_word a.form && is_word b.form) ≡ false → lowered_arithmetic o a b v t ≡ in_target (join (operand_block a v) (join (operand_block b t) (set v (Bin o (operand_in a.form v) (operand_in b.form t)))))
+  as_arithmetic o a b v t h =
+      ap (λ c. if c then as_word (Bin o (operand_in a.form v) (operand_in b.form t)) else in_target (join (operand_block a v) (join (operand_block b t) (set v (Bin o (operand_in a.form v) (operand_in b.form t)))))) h
+
+  both_words : (a b : Term) (v t : ℕ) → (is_word (lowered rows a v t).form && is_word (lowered rows b t (t + 1)).form) ≡ (is_plain a && is_plain b)
+  both_words a b v t =
+      ap (λ c. c && is_word (lowered rows b t (t + 1)).form) (plain_form rows a v t) ∙ ap (λ c. is_plain a && c) (plain_form rows b t (t + 1))
+
+  -- the right operand is lowered behind the left one
+  abbrev LowersRight : Term → ℕ → ℕ → Type 0
+  LowersRight b t top = (env : List ℕ) → Ready rows words inputs b t (t + 1) top env → IsLowered rows words inputs b t (t + 1) top env
+
+  module _ (o : BinOp) (a b : Term) (v t top : ℕ) (env : List ℕ) (ready : Ready rows words inputs (term.Bin o a b) v t top env) (left : IsLowered rows words inputs a v t top env) (lower : LowersRight b t top) where
+    abbrev first : Lowered
+    first = lowered rows a v t
+
+    abbrev second : Lowered
+    second = lowered rows b t (t + 1)
+
+    -- what is there for the right operand where it isn't direct
+    kept_right_ready : (env' : List ℕ) → Kept v t top env env' → is_direct o b ≡ false → (t < top) × Ready rows words inputs b t (t + 1) top env' × IsLowered rows words inputs b t (t + 1) top env'
+    kept_right_ready env' kept indirect =
+        let r = right_ready o a b v t top env' indirect (still_ready rows words inputs (term.Bin o a b) v t top env env' kept ready) in
+        (r.0, r.1, lower env' r.1)
+
+    both_come : (rest : Block) (Q : ℕ → List ℕ → Type 0) (f : ℕ → ℕ → Got ℕ) → is_direct o b ≡ is_plain b → ((x y : ℕ) (env' : List ℕ) → Kept v t top env env' → BothAre rows words inputs a b (operand_in first.form v) (operand_in second.form t) x y env' → Comes inputs rest env' v t top Q (f x y)) → Comes inputs (join (operand_block first v) (join (operand_block second t) rest)) env v t top Q (with_value (value a words inputs) (λ x. with_value (value b words inputs) (λ y. f x y)))
+    both_come rest Q f direct more =
+        operands_come rows words inputs a b (operand_block first v) (operand_block second t) rest (operand_in first.form v) (operand_in second.form t) v t top env Q f
+        ready.apart.0 ready.apart.1 ready.stands.0 ready.stands.1
+        (left_comes rows words inputs a v t top env (left_ready o a b v t top env ready) left)
+        (λ env' kept. right_comes rows words inputs b v t top env' (is_plain b) refl ready.outside ready.has.1
+        (stands_still rows words inputs b v t top env env' ready.apart.1 kept ready.stands.1)
+        (λ e. kept_right_ready env' kept (direct ∙ e)))
+        more
+
+    inside_still : (env' : List ℕ) → Kept v t top env env' → v < length env'
+    inside_still env' kept = subst (λ n. v < n) (sym kept.same) ready.inside
+
+    -- sums and products
+    arithmetic_set : is_direct o b ≡ is_plain b → ((x y : ℕ) → operation_of o x y ≡ Is (arithmetic_value o x y)) → Comes inputs (join (operand_block first v) (join (operand_block second t) (set v (Bin (arithmetic_operator o) (operand_in first.form v) (operand_in second.form t))))) env v t top (IsIn inputs v) (value (term.Bin o a b) words inputs)
+    arithmetic_set direct is =
+        both_come (set v (Bin (arithmetic_operator o) (operand_in first.form v) (operand_in second.form t))) (IsIn inputs v) (λ x y. operation_of o x y) direct
+        (λ x y env' kept both.
+        subst (λ g. Comes inputs (set v (Bin (arithmetic_operator o) (operand_in first.form v) (operand_in second.form t))) env' v t top (IsIn inputs v) g) (sym (is x y))
+        (set_comes inputs env' v t top (Bin (arithmetic_operator o) (operand_in first.form v) (operand_in second.form t)) (arithmetic_value o x y) (inside_still env' kept) (arithmetic_word o x y)
+        (arithmetic_is inputs o (operand_in first.form v) (operand_in second.form t) x y env' both.left both.right)))
+
+    lowered_as : (m : Lowered) → lowered_operation o a b first second v t ≡ m → Comes inputs m.block env v t top (IsFound rows words inputs (term.Bin o a b) m.form v) (value (term.Bin o a b) words inputs) → IsLowered rows words inputs (term.Bin o a b) v t top env
+    lowered_as m is h = subst (λ l. Comes inputs l.block env v t top (IsFound rows words inputs (term.Bin o a b) l.form v) (value (term.Bin o a b) words inputs)) (sym is) h
+
+    pub arithmetic_comes : (plain : Bool) → (is_plain a && is_plain b) ≡ plain → lowered_operation o a b first second v t ≡ lowered_arithmetic (arithmetic_operator o) first second v t → is_plain (term.Bin o a b) ≡ (is_plain a && is_plain b) → is_direct o b ≡ is_plain b → ((x y : ℕ) → operation_of o x y ≡ Is (arithmetic_value o x y)) → IsLowered rows words inputs (term.Bin o a b) v t top env
+    arithmetic_comes true is whole shape direct value_is = plain_comes rows words inputs (term.Bin o a b) v t top env (shape ∙ is) ready
+    arithmetic_comes false is whole shape direct value_is =
+        lowered_as (in_target (join (operand_block first v) (join (operand_block second t) (set v (Bin (arithmetic_operator o) (operand_in first.form v) (operand_in second.form t))))))
+        (whole ∙ as_arithmetic (arithmetic_operator o) first second v t (both_words a b v t ∙ is))
+        (arithmetic_set direct value_is)
+
+    -- comparisons
+    pub comparison_comes : lowered_operation o a b first second v t ≡ lowered_comparison o first second v t → is_direct o b ≡ is_plain b → ((x y : ℕ) → operation_of o x y ≡ Is (truth_of (comparison_truth o x y))) → IsLowered rows words inputs (term.Bin o a b) v t top env
+    comparison_comes whole direct value_is =
+        let c : Test = compared o (operand_in first.form v) (operand_in second.form t) in
+        let Q : ℕ → List ℕ → Type 0 = λ x env'. HasTruth rows words inputs c env' x in
+        lowered_as (lowered_comparison o first second v t) whole
+        (subst (λ block. Comes inputs (join (operand_block first v) block) env v t top Q (value (term.Bin o a b) words inputs)) (join-nil (operand_block second t))
+        (both_come Nil Q (λ x y. operation_of o x y) direct
+        (λ x y env' kept both.
+        subst (λ g. Comes inputs Nil env' v t top Q g) (sym (value_is x y))
+        (nothing_comes inputs env' v t top (truth_of (comparison_truth o x y)) Q (truth_word (comparison_truth o x y))
+        (record {
+          truth = comparison_truth o x y;
+          is = compared_is inputs o (operand_in first.form v) (operand_in second.form t) x y env' both.left_word both.right_word both.left both.right;
+          as_word = refl;
+        })))))
+
+    -- division
+    pub division_comes : (d : Division) → lowered_operation o a b first second v t ≡ lowered_division d a b first second v t → is_direct o b ≡ is_simple b → ((x y : ℕ) → operation_of o x y ≡ divided y (result_of d x y)) → IsLowered rows words inputs (term.Bin o a b) v t top env
+    division_comes d whole direct value_is =
+        let wa : Operand = held_in a first.form v in
+        let wb : Operand = held_in b second.form t in
+        let rest : Block = by_divisor d (constant_of a) (constant_of b) wa wb v in
+        let part = left_ready o a b v t top env ready in
+        lowered_as (lowered_division d a b first second v t) whole
+        (operands_come rows words inputs a b (held_block a first v) (held_block b second t) rest wa wb v t top env (IsIn inputs v) (λ x y. operation_of o x y)
+        ready.apart.0 ready.apart.1 ready.stands.0 ready.stands.1
+        (held_comes rows words inputs a v t top env (is_simple a) refl part left)
+        (λ env' kept. held_right rows words inputs b v t top env' (is_simple b) refl ready.outside ready.has.1
+        (stands_still rows words inputs b v t top env env' ready.apart.1 kept ready.stands.1)
+        (λ e. kept_right_ready env' kept (direct ∙ e)))
+        (λ x y env' kept both.
+        subst (λ g. Comes inputs rest env' v t top (IsIn inputs v) g) (sym (value_is x y))
+        (divisor_comes inputs d x y env' v t top (constant_of a) (constant_of b) wa wb both.left_word both.right_word (inside_still env' kept) both.known_left both.known_right both.left both.right)))
+
+  operation_comes : (o : BinOp) (a b : Term) (v t top : ℕ) (env : List ℕ) → Ready rows words inputs (term.Bin o a b) v t top env → IsLowered rows words inputs a v t top env → LowersRight b t top → IsLowered rows words inputs (term.Bin o a b) v t top env
+  operation_comes sign.Add a b v t top env ready left lower = arithmetic_comes sign.Add a b v t top env ready left lower (is_plain a && is_plain b) refl refl refl refl (λ x y. refl)
+  operation_comes sign.Sub a b v t top env ready left lower = arithmetic_comes sign.Sub a b v t top env ready left lower (is_plain a && is_plain b) refl refl refl refl (λ x y. refl)
+  operation_comes sign.Mul a b v t top env ready left lower = arithmetic_comes sign.Mul a b v t top env ready left lower (is_plain a && is_plain b) refl refl refl refl (λ x y. refl)
+  operation_comes sign.Div a b v t top env ready left lower = division_comes sign.Div a b v t top env ready left lower Quotient refl refl (λ x y. refl)
+  operation_comes sign.Rem a b v t top env ready left lower = division_comes sign.Rem a b v t top env ready left lower Remainder refl refl (λ x y. refl)
+  operation_comes sign.Eq a b v t top env ready left lower = comparison_comes sign.Eq a b v t top env ready left lower refl refl (λ x y. refl)
+  operation_comes sign.Ne a b v t top env ready left lower = comparison_comes sign.Ne a b v t top env ready left lower refl refl (λ x y. refl)
+  operation_comes sign.Lt a b v t top env ready left lower = comparison_comes sign.Lt a b v t top env ready left lower refl refl (λ x y. refl)
+  operation_comes sign.Le a b v t top env ready left lower = comparison_comes sign.Le a b v t top env ready left lower refl refl (λ x y. refl)
+  operation_comes sign.Gt a b v t top env ready left lower = comparison_comes sign.Gt a b v t top env ready left lower refl refl (λ x y. refl)
+  operation_comes sign.Ge a b v t top env ready left lower = comparison_comes sign.Ge a b v t top env ready left lower refl refl (λ x y. refl)
+
+  -- ---- choices
+
+  -- a part that is lowered behind others, in the same target
+  abbrev LowersPart : Term → ℕ → ℕ → ℕ → Type 0
+  LowersPart e v t top = (env : List ℕ) → Ready rows words inputs e v t top env → IsLowered rows words inputs e v t top env
+
+  abbrev condition_of : Term → ℕ → ℕ → Test
+  condition_of e v t = condition_in (lowered rows e v t).form v
+
+  part_condition : (e : Term) (v t top : ℕ) (env : List ℕ) → Ready rows words inputs e v t top env → IsLowered rows words inputs e v t top env → Comes inputs (lowered rows e v t).block env v t top (IsCondition rows words inputs (condition_of e v t)) (value e words inputs)
+  part_condition e v t top env ready h =
+      condition_comes rows words inputs e (lowered rows e v t).block (lowered rows e v t).form v t top env (value e words inputs) ready.apart ready.stands h
+
+  part_target : (e : Term) (v t top : ℕ) (env : List ℕ) → Ready rows words inputs e v t top env → IsLowered rows words inputs e v t top env → Comes inputs (into (lowered rows e v t) v) env v t top (IsIn inputs v) (value e words inputs)
+  part_target e v t top env ready h =
+      target_comes rows words inputs e (lowered rows e v t).block (lowered rows e v t).form v t top env (value e words inputs) ready.inside ready.apart ready.stands h
+
+  -- the truth of the second part is put into the target
+  second_truth : (e : Term) (v t top : ℕ) (env : List ℕ) → Ready rows words inputs e v t top env → IsLowered rows words inputs e v t top env → Comes inputs (join (lowered rows e v t).block (set_truth v (condition_of e v t))) env v t top (IsIn inputs v) (with_value (value e words inputs) (λ y. Is (choice y 0 1)))
+  second_truth e v t top env ready h =
+      then_comes inputs (lowered rows e v t).block (set_truth v (condition_of e v t)) env v t top (IsCondition rows words inputs (condition_of e v t)) (IsIn inputs v) (value e words inputs) (λ y. Is (choice y 0 1))
+      (part_condition e v t top env ready h)
+      (λ y env' word kept is.
+      subst (λ n. Arrives inputs (set_truth v (condition_of e v t)) env' v t top (IsIn inputs v) n) (sym (truth_choice y))
+      (set_truth_comes inputs env' v t top (condition_of e v t) (is_true y) (subst (λ n. v < n) (sym kept.same) ready.inside) is))
+
+  -- a second part that needs no statements: its test is looked at in the same state
+  bare_test : (block : Block) (c both : Test) (v t top : ℕ) (env : List ℕ) (g : Got ℕ) → block ≡ Nil → ((y : ℕ) → test_value inputs c env ≡ Is (is_true y) → test_value inputs both env ≡ Is (is_true y)) → Comes inputs block env v t top (IsCondition rows words inputs c) g → Comes inputs Nil env v t top (λ x env'. HasTruth rows words inputs both env' x) (with_value g (λ y. Is (choice y 0 1)))
+  bare_test block c both v t top env (Is y) empty test h =
+      let here : Runs [] env 0 ≡ Runs [] h.env' 0 = ap (λ b. run inputs b env 0) (sym empty) ∙ h.runs 0 in
+      let same : h.env' ≡ env = cc in
+      nothing_comes inputs env v t top (choice y 0 1) (λ x env'. HasTruth rows words inputs both env' x)
+      (subst (λ n. n < 2 ^ 64) (sym (truth_choice y)) (truth_word (is_true y)))
+      (record {
+        truth = is_true y;
+        is = test y (subst (λ e. test_value inputs c e ≡ Is (is_true y)) same h.holds);
+        as_word = truth_choice y;
+      })
+  bare_test block c both v t top env (Fails f) empty test h = λ left. ap (λ b. run inputs b env left) (sym empty) ∙ h left
+
+  empty_is : (b : Block) → is_empty b ≡ true → b ≡ Nil
+  empty_is Nil h = refl
+  empty_is (Cons s b) h = absurd cc
+
+  module _ (a b : Term) (v t top : ℕ) (env : List ℕ) (ready_a : Ready rows words inputs a v t top env) (ready_b : Ready rows words inputs b v t top env) (left : IsLowered rows words inputs a v t top env) (lower : LowersPart b v t top) where
+    ready_second : (env' : List ℕ) → Kept v t top env env' → Ready rows words inputs b v t top env'
+    ready_second env' kept = still_ready rows words inputs b v t top env env' kept ready_b
+
+    inside_second : (env' : List ℕ) → Kept v t top env env' → v < length env'
+    inside_second env' kept = subst (λ n. v < n) (sym kept.same) ready_b.inside
+
+    abbrev first_block : Block
+    first_block = (lowered rows a v t).block
+
+    abbrev second_block : Block
+    second_block = (lowered rows b v t).block
+
+    -- ---- and
+
+    both_tested : (x : ℕ) (env' : List ℕ) → second_block ≡ Nil → Kept v t top env env' → test_value inputs (condition_of a v t) env' ≡ Is (is_true x) → Comes inputs Nil env' v t top (λ y e. HasTruth rows words inputs (Both (condition_of a v t) (condition_of b v t)) e y) (choice x (Is 0) (with_value (value b words inputs) (λ y. Is (choice y 0 1))))
+    both_tested zero env' empty kept is =
+        nothing_comes inputs env' v t top 0 (λ y e. HasTruth rows words inputs (Both (condition_of a v t) (condition_of b v t)) e y) (omega arith)
+        (record { truth = false; is = rw (is) refl; as_word = refl })
+    both_tested (suc x) env' empty kept is =
+        bare_test second_block (condition_of b v t) (Both (condition_of a v t) (condition_of b v t)) v t top env' (value b words inputs) empty
+        (λ y h. rw (is) h) (part_condition b v t top env' (ready_second env' kept) (lower env' (ready_second env' kept)))
+
+    and_chosen : (x : ℕ) (env' : List ℕ) → Kept v t top env env' → test_value inputs (condition_of a v t) env' ≡ Is (is_true x) → Comes inputs (Cons (If (condition_of a v t) (join second_block (set_truth v (condition_of b v t))) (set v (Const 0))) Nil) env' v t top (IsIn inputs v) (choice x (Is 0) (with_value (value b words inputs) (λ y. Is (choice y 0 1))))
+    and_chosen zero env' kept is =
+        second_comes inputs (condition_of a v t) (join second_block (set_truth v (condition_of b v t))) (set v (Const 0)) env' v t top (IsIn inputs v) (Is 0) is
+        (set_comes inputs env' v t top (Const 0) 0 (inside_second env' kept) (omega arith) refl)
+    and_chosen (suc x) env' kept is =
+        first_comes inputs (condition_of a v t) (join second_block (set_truth v (condition_of b v t))) (set v (Const 0)) env' v t top (IsIn inputs v) (with_value (value b words inputs) (λ y. Is (choice y 0 1))) is
+        (second_truth b v t top env' (ready_second env' kept) (lower env' (ready_second env' kept)))
+
+    and_comes : (empty : Bool) → is_empty second_block ≡ empty → IsLowered rows words inputs (term.And a b) v t top env
+    and_comes true is =
+        let Q : ℕ → List ℕ → Type 0 = λ y e. HasTruth rows words inputs (Both (condition_of a v t) (condition_of b v t)) e y in
+        rw (is)
+        (subst (λ block. Comes inputs block env v t top Q (value (term.And a b) words inputs)) (join-nil first_block)
+        (then_comes inputs first_block Nil env v t top (IsCondition rows words inputs (condition_of a v t)) Q (value a words inputs) (λ x. choice x (Is 0) (with_value (value b words inputs) (λ y. Is (choice y 0 1))))
+        (part_condition a v t top env ready_a left)
+        (λ x env' word kept h. both_tested x env' (empty_is second_block is) kept h)))
+    and_comes false is =
+        rw (is)
+        (then_comes inputs first_block (Cons (If (condition_of a v t) (join second_block (set_truth v (condition_of b v t))) (set v (Const 0))) Nil) env v t top (IsCondition rows words inputs (condition_of a v t)) (IsIn inputs v) (value a words inputs) (λ x. choice x (Is 0) (with_value (value b words inputs) (λ y. Is (choice y 0 1))))
+        (part_condition a v t top env ready_a left)
+        (λ x env' word kept h. and_chosen x env' kept h))
+
+    -- ---- or
+
+    either_tested : (x : ℕ) (env' : List ℕ) → second_block ≡ Nil → Kept v t top env env' → test_value inputs (condition_of a v t) env' ≡ Is (is_true x) → Comes inputs Nil env' v t top (λ y e. HasTruth rows words inputs (Either (condition_of a v t) (condition_of b v t)) e y) (choice x (with_value (value b words inputs) (λ y. Is (choice y 0 1))) (Is 1))
+    either_tested zero env' empty kept is =
+        bare_test second_block (condition_of b v t) (Either (condition_of a v t) (condition_of b v t)) v t top env' (value b words inputs) empty
+        (λ y h. rw (is) h) (part_condition b v t top env' (ready_second env' kept) (lower env' (ready_second env' kept)))
+    either_tested (suc x) env' empty kept is =
+        nothing_comes inputs env' v t top 1 (λ y e. HasTruth rows words inputs (Either (condition_of a v t) (condition_of b v t)) e y) (omega arith)
+        (record { truth = true; is = rw (is) refl; as_word = refl })
+
+    or_chosen : (x : ℕ) (env' : List ℕ) → Kept v t top env env' → test_value inputs (condition_of a v t) env' ≡ Is (is_true x) → Comes inputs (Cons (If (condition_of a v t) (set v (Const 1)) (join second_block (set_truth v (condition_of b v t)))) Nil) env' v t top (IsIn inputs v) (choice x (with_value (value b words inputs) (λ y. Is (choice y 0 1))) (Is 1))
+    or_chosen zero env' kept is =
+        second_comes inputs (condition_of a v t) (set v (Const 1)) (join second_block (set_truth v (condition_of b v t))) env' v t top (IsIn inputs v) (with_value (value b words inputs) (λ y. Is (choice y 0 1))) is
+        (second_truth b v t top env' (ready_second env' kept) (lower env' (ready_second env' kept)))
+    or_chosen (suc x) env' kept is =
+        first_comes inputs (condition_of a v t) (set v (Const 1)) (join second_block (set_truth v (condition_of b v t))) env' v t top (IsIn inputs v) (Is 1) is
+        (set_comes inputs env' v t top (Const 1) 1 (inside_second env' kept) (omega arith) refl)
+
+    or_comes : (empty : Bool) → is_empty second_block ≡ empty → IsLowered rows words inputs (term.Or a b) v t top env
+    or_comes true is =
+        let Q : ℕ → List ℕ → Type 0 = λ y e. HasTruth rows words inputs (Either (condition_of a v t) (condition_of b v t)) e y in
+        rw (is)
+        (subst (λ block. Comes inputs block env v t top Q (value (term.Or a b) words inputs)) (join-nil first_block)
+        (then_comes inputs first_block Nil env v t top (IsCondition rows words inputs (condition_of a v t)) Q (value a words inputs) (λ x. choice x (with_value (value b words inputs) (λ y. Is (choice y 0 1))) (Is 1))
+        (part_condition a v t top env ready_a left)
+        (λ x env' word kept h. either_tested x env' (empty_is second_block is) kept h)))
+    or_comes false is =
+        rw (is)
+        (then_comes inputs first_block (Cons (If (condition_of a v t) (set v (Const 1)) (join second_block (set_truth v (condition_of b v t)))) Nil) env v t top (IsCondition rows words inputs (condition_of a v t)) (IsIn inputs v) (value a words inputs) (λ x. choice x (with_value (value b words inputs) (λ y. Is (choice y 0 1))) (Is 1))
+        (part_condition a v t top env ready_a left)
+        (λ x env' word kept h. or_chosen x env' kept h))
+
+  -- ---- if
+
+  module _ (c a b : Term) (v t top : ℕ) (env : List ℕ) (ready_c : Ready rows words inputs c v t top env) (ready_a : Ready rows words inputs a v t top env) (ready_b : Ready rows words inputs b v t top env) (condition : IsLowered rows words inputs c v t top env) (lower_a : LowersPart a v t top) (lower_b : LowersPart b v t top) where
+    abbrev choice_block : Block
+    choice_block = Cons (If (condition_of c v t) (into (lowered rows a v t) v) (into (lowered rows b v t) v)) Nil
+
+    branch_chosen : (x : ℕ) (env' : List ℕ) → Kept v t top env env' → test_value inputs (condition_of c v t) env' ≡ Is (is_true x) → Comes inputs choice_block env' v t top (IsIn inputs v) (choice x (value b words inputs) (value a words inputs))
+    branch_chosen zero env' kept is =
+        let ready = still_ready rows words inputs b v t top env env' kept ready_b in
+        second_comes inputs (condition_of c v t) (into (lowered rows a v t) v) (into (lowered rows b v t) v) env' v t top (IsIn inputs v) (value b words inputs) is
+        (part_target b v t top env' ready (lower_b env' ready))
+    branch_chosen (suc x) env' kept is =
+        let ready = still_ready rows words inputs a v t top env env' kept ready_a in
+        first_comes inputs (condition_of c v t) (into (lowered rows a v t) v) (into (lowered rows b v t) v) env' v t top (IsIn inputs v) (value a words inputs) is
+        (part_target a v t top env' ready (lower_a env' ready))
+
+    choice_comes : IsLowered rows words inputs (term.If c a b) v t top env
+    choice_comes =
+        then_comes inputs (lowered rows c v t).block choice_block env v t top (IsCondition rows words inputs (condition_of c v t)) (IsIn inputs v) (value c words inputs) (λ x. choice x (value b words inputs) (value a words inputs))
+        (part_condition c v t top env ready_c condition)
+        (λ x env' word kept h. branch_chosen x env' kept h)
+
+  -- ---- the parts of a choice are ready
+
+  part_ready : (e whole : Term) (v t top : ℕ) (env : List ℕ) → temps_of e ≤ temps_of whole → HasWords e → IsApart rows v t top e → Stands rows words inputs e env → Ready rows words inputs whole v t top env → Ready rows words inputs e v t top env
+  part_ready e whole v t top env fewer has apart stands ready = record {
+    has = has;
+    outside = ready.outside;
+    room = omega (arith, fewer, ready.room);
+    inside = ready.inside;
+    within = ready.within;
+    apart = apart;
+    stands = stands;
+  }
+
+  -- ---- every expression
+
+  pub lowers : (e : Term) (v t top : ℕ) (env : List ℕ) → Ready rows words inputs e v t top env → IsLowered rows words inputs e v t top env
+  lowers (term.Lit c) v t top env ready = plain_comes rows words inputs (term.Lit c) v t top env refl ready
+  lowers (term.Truth b) v t top env ready = plain_comes rows words inputs (term.Truth b) v t top env refl ready
+  lowers (term.Var k) v t top env ready = plain_comes rows words inputs (term.Var k) v t top env refl ready
+  lowers (term.Param k) v t top env ready = plain_comes rows words inputs (term.Param k) v t top env refl ready
+  lowers (term.Len k) v t top env ready = plain_comes rows words inputs (term.Len k) v t top env refl ready
+  lowers (term.Neg a) v t top env ready =
+      let part = part_ready a (term.Neg a) v t top env (omega arith) ready.has ready.apart ready.stands ready in
+      minus_comes a v t top env (is_plain a) refl ready part (lowers a v t top env part)
+  lowers (term.Not a) v t top env ready =
+      let part = part_ready a (term.Not a) v t top env (omega arith) ready.has ready.apart ready.stands ready in
+      not_comes a v t top env part (lowers a v t top env part)
+  lowers (term.Bin o a b) v t top env ready =
+      operation_comes o a b v t top env ready (lowers a v t top env (left_ready o a b v t top env ready))
+      (λ env' part. lowers b t (t + 1) top env' part)
+  lowers (term.And a b) v t top env ready =
+      let first = part_ready a (term.And a b) v t top env (omega arith) ready.has.0 ready.apart.0 ready.stands.0 ready in
+      let second = part_ready b (term.And a b) v t top env (omega arith) ready.has.1 ready.apart.1 ready.stands.1 ready in
+      and_comes a b v t top env first second (lowers a v t top env first) (λ env' part. lowers b v t top env' part) (is_empty (lowered rows b v t).block) refl
+  lowers (term.Or a b) v t top env ready =
+      let first = part_ready a (term.Or a b) v t top env (omega arith) ready.has.0 ready.apart.0 ready.stands.0 ready in
+      let second = part_ready b (term.Or a b) v t top env (omega arith) ready.has.1 ready.apart.1 ready.stands.1 ready in
+      or_comes a b v t top env first second (lowers a v t top env first) (λ env' part. lowers b v t top env' part) (is_empty (lowered rows b v t).block) refl
+  lowers (term.If c a b) v t top env ready =
+      let first = part_ready c (term.If c a b) v t top env (omega arith) ready.has.0 ready.apart.0 ready.stands.0 ready in
+      let second = part_ready a (term.If c a b) v t top env (omega arith) ready.has.1.0 ready.apart.1.0 ready.stands.1.0 ready in
+      let third = part_ready b (term.If c a b) v t top env (omega arith) ready.has.1.1 ready.apart.1.1 ready.stands.1.1 ready in
+      choice_comes c a b v t top env first second third (lowers c v t top env first) (λ env' part. lowers a v t top env' part) (λ env' part. lowers b v t top env' part)
+
+  -- the statements of an expression put its value into the target, or return 1
+  pub value_comes : (e : Term) (v t top : ℕ) (env : List ℕ) → Ready rows words inputs e v t top env → Comes inputs (into (lowered rows e v t) v) env v t top (IsIn inputs v) (value e words inputs)
+  value_comes e v t top env ready = part_target e v t top env ready (lowers e v t top env ready)

@@ -1,0 +1,74 @@
+-- Worked expressions: what their statements are, and what they do.
+use Rattle.std.specs.Prelude.{◌≡◌, refl, ◌-◌, ◌^◌, [], ◌∷◌}
+use Rattle.list_denotation.specs.declared.expr.BinOp.TheVariants as sign
+use Rattle.list_denotation.specs.Terms as term
+use Rattle.list_denotation.specs.Terms.{Term}
+use Rattle.list_denotation.specs.Values.{Trap}
+use Rattle.list_denotation.specs.Observation.{Failed}
+use Rattle.loop_ir.specs.declared.syntax.WOp.TheVariants as op
+use Rattle.loop_ir.specs.declared.syntax.Verdict.TheVariants as verdict
+use Rattle.loop_ir.specs.Statements.{Const, Var, Bin, Same, Less, Set, If, Ret, Nil, Cons}
+use Rattle.loop_ir.specs.Meaning.{Runs, Over, run}
+use Rattle.expr_lower.specs.Lowering.{lowered_into}
+use Rattle.expr_lower.specs.Costs.{cost, temps_of}
+
+-- 10 / x
+abbrev ten_by : Term
+ten_by = term.Bin sign.Div (term.Lit 10) (term.Var 0)
+
+-- if x == 0 then 0 else 10 / x
+abbrev guarded : Term
+guarded = term.If (term.Bin sign.Eq (term.Var 0) (term.Lit 0)) (term.Lit 0) ten_by
+
+-- x in variable 1, the target 2: the divisor alone is tested
+ten_by_text : lowered_into (1 ∷ []) ten_by 2 3
+    ≡ Cons (If (Same (Var 1) (Const 0)) (Cons (Ret verdict.Trap) Nil) Nil)
+    (Cons (If (Less (Var 1) (Const (2 ^ 63)))
+    (Cons (Set 2 (Bin op.Div (Const 10) (Var 1))) Nil)
+    (Cons (Set 2 (Bin op.Sub (Const 0) (Bin op.Div (Const 10) (Bin op.Sub (Const 0) (Var 1))))) Nil))
+    Nil)
+ten_by_text = refl
+
+ten_by_five : run [] (lowered_into (1 ∷ []) ten_by 2 3) (0 ∷ 5 ∷ 0 ∷ []) 0 ≡ Runs [] (0 ∷ 5 ∷ 2 ∷ []) 0
+ten_by_five = refl
+
+-- 10 / -3 is -3
+ten_by_minus_three : run [] (lowered_into (1 ∷ []) ten_by 2 3) (0 ∷ (2 ^ 64 - 3) ∷ 0 ∷ []) 0 ≡ Runs [] (0 ∷ (2 ^ 64 - 3) ∷ (2 ^ 64 - 3) ∷ []) 0
+ten_by_minus_three = refl
+
+ten_by_zero : run [] (lowered_into (1 ∷ []) ten_by 2 3) (0 ∷ 0 ∷ 7 ∷ []) 4 ≡ Over [] (Failed Trap)
+ten_by_zero = refl
+
+guarded_zero : run [] (lowered_into (1 ∷ []) guarded 2 3) (0 ∷ 0 ∷ 7 ∷ []) 0 ≡ Runs [] (0 ∷ 0 ∷ 0 ∷ []) 0
+guarded_zero = refl
+
+guarded_five : run [] (lowered_into (1 ∷ []) guarded 2 3) (0 ∷ 5 ∷ 7 ∷ []) 0 ≡ Runs [] (0 ∷ 5 ∷ 2 ∷ []) 0
+guarded_five = refl
+
+-- x % -2 over -7 is -1, with no test of the divisor
+remainder_text : lowered_into (1 ∷ []) (term.Bin sign.Rem (term.Var 0) (term.Neg (term.Lit 2))) 2 3
+    ≡ Cons (If (Less (Var 1) (Const (2 ^ 63)))
+    (Cons (Set 2 (Bin op.Rem (Var 1) (Const 2))) Nil)
+    (Cons (Set 2 (Bin op.Sub (Const 0) (Bin op.Rem (Bin op.Sub (Const 0) (Var 1)) (Const 2)))) Nil))
+    Nil
+remainder_text = refl
+
+-- the least word by -1 is itself
+least_by_minus_one : run [] (lowered_into (1 ∷ []) (term.Bin sign.Div (term.Var 0) (term.Neg (term.Lit 1))) 2 3) (0 ∷ (2 ^ 63) ∷ 0 ∷ []) 0
+    ≡ Runs [] (0 ∷ (2 ^ 63) ∷ (2 ^ 63) ∷ []) 0
+least_by_minus_one = refl
+
+-- x * x + 1 needs one assignment and no temporary
+square_text : lowered_into (1 ∷ []) (term.Bin sign.Add (term.Bin sign.Mul (term.Var 0) (term.Var 0)) (term.Lit 1)) 2 3
+    ≡ Cons (Set 2 (Bin op.Add (Bin op.Mul (Var 1) (Var 1)) (Const 1))) Nil
+square_text = refl
+
+no_temporaries : temps_of guarded ≡ 0
+no_temporaries = refl
+
+-- a quotient of quotients keeps the right one in a temporary
+two_quotients : temps_of (term.Bin sign.Div ten_by ten_by) ≡ 1
+two_quotients = refl
+
+its_cost : cost guarded ≡ 18
+its_cost = refl

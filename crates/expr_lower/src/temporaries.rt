@@ -1,0 +1,64 @@
+//! How many temporaries the statements of an expression use.
+
+ghost use Rattle.std.specs.Prelude.{◌≡◌, ◌≤◌};
+ghost use Rattle.list_denotation.specs.Copies.{term_of};
+ghost use Rattle.list_denotation.specs.Counts.{term_depth};
+ghost use Rattle.list_denotation.specs.Typing.{is_division};
+ghost use Rattle.expr_lower.specs.Costs.{is_arithmetic, is_plain, is_direct, temps_of};
+
+use crate::simple::{is_division, is_simple};
+use list_denotation::{BinOp, Expr};
+
+/// The temporaries that the statements of an expression use, at most one for each level of its depth:
+/// one for each right operand that is kept while others are looked at.
+#[tactic(auto, using(crate::proofs::Costs::temps_depth))]
+pub fn temps_of(e: &Expr) -> u32
+    requires { term_depth (term_of e.now) ≤ 200 }
+    ensures { result ≡ temps_of (term_of e.now) }
+{
+    match e {
+        Expr::Lit(_) | Expr::Truth(_) | Expr::Var(_) | Expr::Param(_) | Expr::Len(_) => 0,
+        Expr::Neg(a) => temps_of(a),
+        Expr::Not(a) => temps_of(a),
+        Expr::Bin(op, a, b) => {
+            let right = if is_direct(*op, b) {
+                0
+            } else {
+                temps_of(b) + 1
+            };
+            temps_of(a).max(right)
+        }
+        Expr::And(a, b) => temps_of(a).max(temps_of(b)),
+        Expr::Or(a, b) => temps_of(a).max(temps_of(b)),
+        Expr::If(c, a, b) => temps_of(c).max(temps_of(a).max(temps_of(b))),
+    }
+}
+
+/// Whether a right operand stands in the text as it is.
+fn is_direct(op: BinOp, b: &Expr) -> bool
+    ensures { result ≡ is_direct op (term_of b.now) }
+{
+    if is_division(op) {
+        is_simple(b)
+    } else {
+        is_plain(b)
+    }
+}
+
+fn is_arithmetic(op: BinOp) -> bool
+    ensures { result ≡ is_arithmetic op }
+{
+    matches!(op, BinOp::Add | BinOp::Sub | BinOp::Mul)
+}
+
+/// Whether an expression is one word of the C text.
+fn is_plain(e: &Expr) -> bool
+    ensures { result ≡ is_plain (term_of e.now) }
+{
+    match e {
+        Expr::Lit(_) | Expr::Truth(_) | Expr::Var(_) | Expr::Param(_) | Expr::Len(_) => true,
+        Expr::Neg(a) => is_plain(a),
+        Expr::Bin(op, a, b) => is_arithmetic(*op) && is_plain(a) && is_plain(b),
+        _ => false,
+    }
+}
