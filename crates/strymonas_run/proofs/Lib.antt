@@ -1,16 +1,6 @@
-pub mod Values
-pub mod Variables
-pub mod Turn
-pub mod Emitted
-pub mod Typed
-pub mod BuiltRows
-pub mod Appends
-pub mod Compiled
 pub mod PrintedText
 pub mod ReportLemmas
 pub mod Readings
 pub mod OneReading
 pub mod Outputs
 pub mod Comings
-pub mod Squares
-pub mod TwoMaps

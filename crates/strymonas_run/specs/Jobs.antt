@@ -14,14 +14,14 @@ use Rattle.strymonas_run.specs.declared.refusal.TextFault.{TextFault}
 use Rattle.strymonas_run.specs.declared.refusal.TextFault.TheVariants as text
 use Rattle.strymonas_run.specs.declared.statuses.Status.{Status}
 use Rattle.strymonas_run.specs.declared.statuses.Status.TheVariants.{Done, Words, Missing, Refused, ReadFault, WriteFault, NoMemory, TooLong}
-use Rattle.strymonas_run.specs.Built.{is_built}
+use Rattle.loop_emit.specs.Built.{is_built}
 use Rattle.strymonas_run.specs.PipelineFile.{IsPipelineFile}
 use Rattle.strymonas_run.specs.Refusals.{IsRefused}
 use Rattle.strymonas_run.specs.Reading.{IsReading}
 use Rattle.loop_ir.specs.Statements.{Routine}
 use Rattle.loop_ir.specs.DeclaredNames.{declared_names, block_names}
 use Rattle.loop_ir.specs.Layout.{layout}
-use Rattle.strymonas_run.specs.Headline.{IsEmitted}
+use Rattle.loop_emit.specs.Headline.{IsEmitted}
 use Rattle.strymonas_run.specs.CountLines.{counts_text}
 
 -- ---- what a job takes, and what it writes

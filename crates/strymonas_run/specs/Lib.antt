@@ -1,9 +1,6 @@
-pub mod Built
 pub mod PipelineFile
 pub mod Refusals
 pub mod Reading
-pub mod Emission
-pub mod Headline
 pub mod CountLines
 pub mod Commands
 pub mod Statuses

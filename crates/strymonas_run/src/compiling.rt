@@ -2,11 +2,10 @@ ghost use Rattle.strymonas_run.specs.declared.commands.Job.TheVariants.{Compile}
 ghost use Rattle.list_denotation.specs.Pipelines.{pipeline_of};
 ghost use Rattle.strymonas_run.specs.Jobs.{MakesTextOf};
 
-use crate::built::is_built;
 use crate::c_printer::print_c;
-use crate::loop_emit::emit;
 use crate::refusal::{RefusalKind, TextFault};
 use list_denotation::Program;
+use loop_emit::{emit, is_built};
 use std::alloc::Global;
 
 /// The C text of a pipeline. `Unbuilt` at 0 comes exactly where it isn't compiled yet, and `NoMemory`

@@ -2,7 +2,7 @@
 //!
 //! It stands on pipe_lexer, pipe_grammar and pipe_types for a text's tokens, its tree and its kinds, on
 //! list_denotation for programs and what they mean, on loop_ir for loop programs and what those mean, on
-//! strm_io for devices and on itoa for numbers.
+//! loop_emit for the program of a pipeline, on strm_io for devices and on itoa for numbers.
 //! `run_words` carries the promise. Unless memory is refused or a device fails, `check` writes the
 //! counts of each pipeline file, and `compile` the text of a loop program of each that is built so far,
 //! which goes no further than the pipeline's lists, and as far as they do. Any other file is refused
@@ -10,14 +10,12 @@
 //! `c_printer` can be used by itself: `print_c` gives the layout of any loop program.
 #![tactic(auto)]
 
-mod built;
 pub mod c_printer;
 mod commands;
 mod compiling;
 mod counting;
 mod jobs;
 mod laws;
-mod loop_emit;
 mod reading;
 mod refusal;
 mod reporting;

@@ -1,0 +1,11 @@
+pub mod ChainRows
+pub mod Variables
+pub mod RowVariables
+pub mod Turn
+pub mod Emitted
+pub mod Typed
+pub mod Names
+pub mod Compiled
+pub mod Appends
+pub mod Squares
+pub mod TwoMaps

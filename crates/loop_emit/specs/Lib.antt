@@ -1,0 +1,4 @@
+pub mod Built
+pub mod Emission
+pub mod Chains
+pub mod Headline

@@ -1,8 +1,0 @@
-use Rattle.std.proofs.Common.{◌≡◌, drop}
-use Rattle.loop_ir.specs.Statements.{join}
-use Rattle.loop_ir.specs.StatementCopies.{block_of}
-use Rattle.strymonas_run.specs.Emission.{print_block}
-use Rattle.strymonas_run.proofs.loop_emit.print_row.Given as goal
-
-abbrev pub invariant-loop-i : goal.invariant-loop-i
-invariant-loop-i l = join (block_of l.block) (print_block (drop l.i l.vars)) ≡ join (block_of l.fn.block) (print_block l.vars)
