@@ -9,7 +9,7 @@ ghost use Rattle.strymonas_run.specs.PipelineFile.{IsPipelineFile};
 ghost use Rattle.strymonas_run.specs.Refusals.{HasRefusal};
 ghost use Rattle.strymonas_run.specs.declared.refusal.Refusal.{Refusal};
 
-use pipe_grammar::answers_are_one;
+use pipe_grammar::{answers_are_one, texts_are_read_exactly};
 
 /// A file is one pipeline at most.
 pub fn files_are_one_pipeline()
@@ -23,6 +23,13 @@ pub fn files_have_one_refusal()
     ensures { (src : List ℕ) (a b : Option Refusal) → HasRefusal src a → HasRefusal src b → a ≡ b }
 {
     answers_are_one();
+}
+
+/// Each file of bytes has a refusal or none: together with the law before it, exactly one of these.
+pub fn each_file_has_its_refusal()
+    ensures { (src : List ℕ) → (o : Option Refusal) × HasRefusal src o }
+{
+    texts_are_read_exactly();
 }
 
 /// A file of at most 65,536 bytes has no refusal exactly where it is some pipeline.

@@ -26,8 +26,8 @@ mod tests;
 
 pub use commands::{Job, read_words};
 pub use laws::{
-    checks_are_never_unbuilt, files_are_one_pipeline, files_have_one_refusal,
-    pipelines_have_no_refusal,
+    checks_are_never_unbuilt, each_file_has_its_refusal, files_are_one_pipeline,
+    files_have_one_refusal, pipelines_have_no_refusal,
 };
 pub use refusal::{Refusal, RefusalKind};
 pub use running::run_words;

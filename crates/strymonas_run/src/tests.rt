@@ -267,7 +267,10 @@ fn names_are_declared_and_no_keywords(rt: HostRuntime) -> Result<(), Fail> {
         ("input a1_: array; array a1_ | map a1_ -> a1_ | print", ""),
         ("input é: array; array é | map x -> x | print", ""),
         ("input a: array; input b: array; array b | print", ""),
-        ("input a: array; input k: int; array a | map x -> k / x - len(a) | print", ""),
+        (
+            "input a: array; input k: int; array a | map x -> k / x - len(a) | print",
+            "",
+        ),
         ("input a: array; array a | map {x} -> x | print", ""),
         (
             "input a: array; array a | map x -> {x, x + 1} | map {x, y} -> x * y | print",

@@ -1,0 +1,97 @@
+-- Each list of bytes has tokens, or a fault where it stops.
+use Rattle.std.proofs.Common.{◌≡◌, ℕ, zero, suc, ◌≤◌, List, [], ◌∷◌, length, take, drop, Result, Ok, Err, refl, sym, subst, arith, inl, inr}
+use Rattle.std.proofs.lemmas.List.{length-drop, take-append-drop}
+use Rattle.std.specs.Str.{chars, IsUtf8, IsValidUpTo}
+use Rattle.pipe_lexer.specs.Pieces.{IsLargeNumber, IsBadChar}
+use Rattle.pipe_lexer.specs.Fronts.{HasFront}
+use Rattle.pipe_lexer.specs.Lexing.{Part, Passes, size_of_parts, tokens_from, Answer, LexesAs}
+use Rattle.pipe_lexer.specs.declared.piece.Front.{Front}
+use Rattle.pipe_lexer.specs.declared.piece.Stop.{Stop}
+use Rattle.pipe_lexer.specs.declared.piece.Stop.TheVariants as stop
+use Rattle.pipe_lexer.specs.declared.fault.LexFault.TheVariants as fault
+use Rattle.strymonas_run.proofs.LongestFronts.{longest_front, text_or_not}
+use Rattle.strymonas_run.proofs.FirstPieces.{some_front}
+
+-- why the cutting goes no further than this rest
+data End : Type 0 where
+  AtEnd : End
+  AtBadChar : End
+  AtLargeNumber : End
+
+abbrev IsEnd : End → List ℕ → Type 0
+IsEnd AtEnd rest = rest ≡ []
+IsEnd AtBadChar rest = IsBadChar rest
+IsEnd AtLargeNumber rest = IsLargeNumber rest
+
+-- the characters are parts as far as any piece begins
+record IsCutUp (cs : List ℕ) : Type 0 where
+  pub parts : List Part
+  pub rest : List ℕ
+  pub passes : Passes cs parts rest
+  pub end : End
+  pub is_end : IsEnd end rest
+
+goes_nowhere : (cs : List ℕ) (end : End) → IsEnd end cs → IsCutUp cs
+goes_nowhere cs end is = record { parts = []; rest = cs; passes = refl; end = end; is_end = is }
+
+-- characters that begin with a piece, before others that are cut up
+with_piece : (cs : List ℕ) (front : Front) → HasFront cs (Ok front) → IsCutUp (drop front.len cs) → IsCutUp cs
+with_piece cs front stands later = record {
+  parts = record { piece = front.piece; text = take front.len cs } ∷ later.parts;
+  rest = later.rest;
+  passes = record { rest = drop front.len cs; split = sym (take-append-drop front.len cs); piece = stands.piece; goes_on = later.passes };
+  end = later.end;
+  is_end = later.is_end;
+}
+
+-- what stands at the front, before any shorter rest that is cut up
+by_front : (most : ℕ) (cs : List ℕ) → length cs ≤ suc most → ((rest : List ℕ) → length rest ≤ most → IsCutUp rest)
+    → (r : Result Front Stop) → HasFront cs r → IsCutUp cs
+by_front most cs within later (Ok front) h =
+    let some = h.some in
+    let shorter : length (drop front.len cs) ≤ most = omega (arith, length-drop front.len cs) in
+    with_piece cs front h (later (drop front.len cs) shorter)
+by_front most cs within later (Err stop.BadChar) h = goes_nowhere cs AtBadChar h
+by_front most cs within later (Err stop.NumberTooLarge) h = goes_nowhere cs AtLargeNumber h
+
+-- characters, of which there are at most so many, are cut up
+cut_up : (most : ℕ) (cs : List ℕ) → length cs ≤ most → IsCutUp cs
+cut_up most [] within = goes_nowhere [] AtEnd refl
+cut_up zero (c ∷ cs) within = absurd (omega arith)
+cut_up (suc most) (c ∷ cs) within =
+    let front = some_front (c ∷ cs) (omega arith) in
+    by_front most (c ∷ cs) within (λ rest shorter. cut_up most rest shorter) front.0 front.1
+
+-- tokens, or a fault that is no refusal of memory
+pub record Lexes (src : List ℕ) : Type 0 where
+  pub answer : Answer
+  pub lexes : LexesAs src answer
+  pub some : answer ≡ Err fault.NoMemory → ⊥
+
+by_end : (src : List ℕ) → IsUtf8 src → (parts : List Part) (rest : List ℕ) → Passes (chars src) parts rest → (end : End) → IsEnd end rest → Lexes src
+by_end src text parts rest passes AtEnd is = record {
+  answer = Ok (tokens_from 0 parts);
+  lexes = (text, record { parts = parts; passes = subst (Passes (chars src) parts) is passes; tokens = refl });
+  some = λ e. cc;
+}
+by_end src text parts rest passes AtBadChar is = record {
+  answer = Err (fault.BadChar (size_of_parts parts));
+  lexes = (text, record { parts = parts; rest = rest; passes = passes; place = refl; stops = is });
+  some = λ e. cc;
+}
+by_end src text parts rest passes AtLargeNumber is = record {
+  answer = Err (fault.NumberTooLarge (size_of_parts parts));
+  lexes = (text, record { parts = parts; rest = rest; passes = passes; place = refl; stops = is });
+  some = λ e. cc;
+}
+
+text_lexes : (src : List ℕ) → IsUtf8 src → Lexes src
+text_lexes src text =
+    let cut = cut_up (length (chars src)) (chars src) (omega arith) in
+    by_end src text cut.parts cut.rest cut.passes cut.end cut.is_end
+
+no_text_lexes : (src : List ℕ) → (at : ℕ) × IsValidUpTo src at → Lexes src
+no_text_lexes src front = record { answer = Err (fault.NotUtf8 front.0); lexes = front.1; some = λ e. cc }
+
+pub each_lexes : (src : List ℕ) → Lexes src
+each_lexes src = elim (text_or_not src) [ inl text ↦ text_lexes src text | inr no_text ↦ no_text_lexes src (longest_front src no_text) ]
