@@ -1,5 +1,5 @@
 -- What goes on inside patterns.
-use Rattle.std.proofs.Common.{◌≡◌, ℕ, List, [], ◌++◌, Ok, Err, refl, sym}
+use Rattle.std.proofs.Common.{◌≡◌, ℕ, List, [], ◌++◌, Ok, Err, refl}
 use Rattle.list_denotation.specs.declared.kind.Kind.{Kind}
 use Rattle.list_denotation.specs.declared.kind.Kind.TheVariants as kind
 use Rattle.list_denotation.specs.Terms as term

@@ -1,4 +1,5 @@
 pub mod Faults
+pub mod Inputs
 pub mod Insides
 pub mod Lists
 pub mod Meanings

@@ -1,8 +1,11 @@
 -- The plain copies of what the code holds.
 use Rattle.std.specs.Prelude.{ℕ, List, map}
+use Rattle.std.specs.Borrow.{Bor}
 use Rattle.std.specs.Global.{Vec}
+use Rattle.indexmap.specs.IndexMap.{IndexMap}
 use Rattle.list_denotation.specs.Copies.{pipe_of, term_of, terms_of}
-use Rattle.pipe_grammar.specs.TreeCopies.{declaration_of}
+use Rattle.pipe_grammar.specs.declared.tree.Decl.{Decl}
+use Rattle.pipe_grammar.specs.Trees.{Declaration}
 use Rattle.pipe_types.specs.declared.expressions.TypedExpr.{TypedExpr}
 use Rattle.pipe_types.specs.declared.foldings.State.{State as Folded}
 use Rattle.pipe_types.specs.declared.scopes.BoundWord.{BoundWord}
@@ -20,8 +23,16 @@ bound_of w = record { name = w.name.now; kind = w.kind }
 abbrev pub bounds_of : Vec BoundWord → List Bound
 bounds_of words = map bound_of words.items
 
+-- an input as it was declared: its name is the map's key, and its places and its kind stand in the declaration
+abbrev pub input_of : Bor (List ℕ) × Bor Decl → Declaration
+input_of e = record { at = e.1.now.at; name = record { at = e.1.now.name.at; text = e.0.now }; kind = e.1.now.kind }
+
+-- the inputs in the order of declaration
+abbrev pub inputs_of : {S : Type 0} → IndexMap (Bor (List ℕ)) (Bor Decl) S → List Declaration
+inputs_of inputs = map input_of inputs.entries
+
 abbrev pub scope_of : Names → Scope
-scope_of s = record { inputs = map declaration_of s.inputs.now; bound = map bound_of s.bound.items }
+scope_of s = record { inputs = inputs_of s.inputs.now; bound = map bound_of s.bound.items }
 
 abbrev pub meaning_copy : Found → Meaning
 meaning_copy (found.Bound i k) = IsBound i k

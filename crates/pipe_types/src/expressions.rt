@@ -100,7 +100,7 @@ pub fn array_named(at: u32, found: Option<Meaning>) -> Result<u32, TypeFault>
 
 /// The length of the array that is named.
 fn len_of(scope: &Scope, name: &Name) -> Result<TypedExpr, TypeFault>
-    requires inputs { length scope.now.inputs.now < 2 ^ 32 }
+    requires inputs { length scope.now.inputs.now.entries < 2 ^ 32 }
     requires bound { length scope.now.bound.items < 2 ^ 32 }
     ensures { IsOneUnlessRefused typed_of result (expression_of (scope_of scope.now) (Len 0 name.now.at name.now.text)) }
 {
@@ -115,7 +115,7 @@ fn len_of(scope: &Scope, name: &Name) -> Result<TypedExpr, TypeFault>
 #[cycle(expressions)]
 #[tactic(auto, using(crate::proofs::Places::place_is))]
 pub fn of_this_kind(alloc: Global, scope: &Scope, kind: Kind, e: &TExpr) -> Result<Expr, TypeFault>
-    requires inputs { length scope.now.inputs.now < 2 ^ 32 }
+    requires inputs { length scope.now.inputs.now.entries < 2 ^ 32 }
     requires bound { length scope.now.bound.items < 2 ^ 32 }
     ensures { IsOneUnlessRefused term_of result (of_this_kind (scope_of scope.now) kind (formula_of e.now)) }
 {
@@ -130,7 +130,7 @@ pub fn of_this_kind(alloc: Global, scope: &Scope, kind: Kind, e: &TExpr) -> Resu
 #[cycle(expressions)]
 #[tactic(auto, using(crate::proofs::Places::place_is))]
 fn negated(alloc: Global, scope: &Scope, a: &TExpr) -> Result<TypedExpr, TypeFault>
-    requires inputs { length scope.now.inputs.now < 2 ^ 32 }
+    requires inputs { length scope.now.inputs.now.entries < 2 ^ 32 }
     requires bound { length scope.now.bound.items < 2 ^ 32 }
     ensures { IsOneUnlessRefused typed_of result (expression_of (scope_of scope.now) (Neg 0 (formula_of a.now))) }
 {
@@ -145,7 +145,7 @@ fn negated(alloc: Global, scope: &Scope, a: &TExpr) -> Result<TypedExpr, TypeFau
 #[cycle(expressions)]
 #[tactic(auto, using(crate::proofs::Places::place_is))]
 fn inverted(alloc: Global, scope: &Scope, a: &TExpr) -> Result<TypedExpr, TypeFault>
-    requires inputs { length scope.now.inputs.now < 2 ^ 32 }
+    requires inputs { length scope.now.inputs.now.entries < 2 ^ 32 }
     requires bound { length scope.now.bound.items < 2 ^ 32 }
     ensures { IsOneUnlessRefused typed_of result (expression_of (scope_of scope.now) (Not 0 (formula_of a.now))) }
 {
@@ -167,7 +167,7 @@ fn of_ints(
     a: &TExpr,
     b: &TExpr,
 ) -> Result<TypedExpr, TypeFault>
-    requires inputs { length scope.now.inputs.now < 2 ^ 32 }
+    requires inputs { length scope.now.inputs.now.entries < 2 ^ 32 }
     requires bound { length scope.now.bound.items < 2 ^ 32 }
     ensures { IsOneUnlessRefused typed_of result (operation sign (Some kind) (place_of (formula_of a.now)) (place_of (formula_of b.now)) (expression_of (scope_of scope.now) (formula_of a.now)) (expression_of (scope_of scope.now) (formula_of b.now))) }
 {
@@ -189,7 +189,7 @@ fn comparison(
     a: &TExpr,
     b: &TExpr,
 ) -> Result<TypedExpr, TypeFault>
-    requires inputs { length scope.now.inputs.now < 2 ^ 32 }
+    requires inputs { length scope.now.inputs.now.entries < 2 ^ 32 }
     requires bound { length scope.now.bound.items < 2 ^ 32 }
     ensures { IsOneUnlessRefused typed_of result (operation sign None (place_of (formula_of a.now)) (place_of (formula_of b.now)) (expression_of (scope_of scope.now) (formula_of a.now)) (expression_of (scope_of scope.now) (formula_of b.now))) }
 {
@@ -218,7 +218,7 @@ fn operation(
     a: &TExpr,
     b: &TExpr,
 ) -> Result<TypedExpr, TypeFault>
-    requires inputs { length scope.now.inputs.now < 2 ^ 32 }
+    requires inputs { length scope.now.inputs.now.entries < 2 ^ 32 }
     requires bound { length scope.now.bound.items < 2 ^ 32 }
     ensures { IsOneUnlessRefused typed_of result (expression_of (scope_of scope.now) (BinFormula 0 sign 0 (formula_of a.now) (formula_of b.now))) }
 {
@@ -232,7 +232,7 @@ fn operation(
 #[cycle(expressions)]
 #[tactic(auto, using(crate::proofs::Places::place_is))]
 fn conjunction(alloc: Global, scope: &Scope, a: &TExpr, b: &TExpr) -> Result<TypedExpr, TypeFault>
-    requires inputs { length scope.now.inputs.now < 2 ^ 32 }
+    requires inputs { length scope.now.inputs.now.entries < 2 ^ 32 }
     requires bound { length scope.now.bound.items < 2 ^ 32 }
     ensures { IsOneUnlessRefused typed_of result (expression_of (scope_of scope.now) (AndFormula 0 0 (formula_of a.now) (formula_of b.now))) }
 {
@@ -248,7 +248,7 @@ fn conjunction(alloc: Global, scope: &Scope, a: &TExpr, b: &TExpr) -> Result<Typ
 #[cycle(expressions)]
 #[tactic(auto, using(crate::proofs::Places::place_is))]
 fn disjunction(alloc: Global, scope: &Scope, a: &TExpr, b: &TExpr) -> Result<TypedExpr, TypeFault>
-    requires inputs { length scope.now.inputs.now < 2 ^ 32 }
+    requires inputs { length scope.now.inputs.now.entries < 2 ^ 32 }
     requires bound { length scope.now.bound.items < 2 ^ 32 }
     ensures { IsOneUnlessRefused typed_of result (expression_of (scope_of scope.now) (OrFormula 0 0 (formula_of a.now) (formula_of b.now))) }
 {
@@ -270,7 +270,7 @@ fn choice(
     when_true: &TExpr,
     when_false: &TExpr,
 ) -> Result<TypedExpr, TypeFault>
-    requires inputs { length scope.now.inputs.now < 2 ^ 32 }
+    requires inputs { length scope.now.inputs.now.entries < 2 ^ 32 }
     requires bound { length scope.now.bound.items < 2 ^ 32 }
     ensures { IsOneUnlessRefused typed_of result (expression_of (scope_of scope.now) (IfFormula 0 (formula_of c.now) (formula_of when_true.now) (formula_of when_false.now))) }
 {
@@ -301,7 +301,7 @@ fn if_of(alloc: Global, c: Expr, a: Expr, b: Expr) -> Result<Expr, NoMemory>
 #[cycle(expressions)]
 #[tactic(auto, using(crate::proofs::Places::place_is))]
 pub fn expression(alloc: Global, scope: &Scope, e: &TExpr) -> Result<TypedExpr, TypeFault>
-    requires inputs { length scope.now.inputs.now < 2 ^ 32 }
+    requires inputs { length scope.now.inputs.now.entries < 2 ^ 32 }
     requires bound { length scope.now.bound.items < 2 ^ 32 }
     ensures { IsOneUnlessRefused typed_of result (expression_of (scope_of scope.now) (formula_of e.now)) }
 {

@@ -31,7 +31,7 @@ pub fn folding<'a>(
     then: &TRow,
     row: &[Kind],
 ) -> Result<State, TypeFault>
-    requires inputs { length scope.now.inputs.now < 2 ^ 32 }
+    requires inputs { length scope.now.inputs.now.entries < 2 ^ 32 }
     requires bound { length scope.now.bound.items + 16 < 2 ^ 32 }
     requires narrow { length row.now ≤ 8 }
     ensures state { IsOneUnlessRefused state_of result (folding_of (scope_of scope.now) (row_of first.now) (pattern_of state.now) (pattern_of pat.now) (row_of then.now) row.now) }

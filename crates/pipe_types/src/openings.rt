@@ -42,7 +42,7 @@ fn first_division(e: &TExpr) -> Option<u32>
 
 /// An opening expression of any kind.
 pub fn opening(alloc: Global, scope: &Scope, e: &TExpr) -> Result<TypedExpr, TypeFault>
-    requires inputs { length scope.now.inputs.now < 2 ^ 32 }
+    requires inputs { length scope.now.inputs.now.entries < 2 ^ 32 }
     requires bound { length scope.now.bound.items < 2 ^ 32 }
     ensures { IsOneUnlessRefused typed_of result (opening_of (scope_of scope.now) (formula_of e.now)) }
 {
@@ -60,7 +60,7 @@ pub fn opening_of_kind(
     kind: Kind,
     e: &TExpr,
 ) -> Result<Expr, TypeFault>
-    requires inputs { length scope.now.inputs.now < 2 ^ 32 }
+    requires inputs { length scope.now.inputs.now.entries < 2 ^ 32 }
     requires bound { length scope.now.bound.items < 2 ^ 32 }
     ensures { IsOneUnlessRefused term_of result (opening_kind (scope_of scope.now) kind (formula_of e.now)) }
 {

@@ -23,7 +23,7 @@ pub const MOST_PARTS: usize = 8;
 
 /// Expressions that stand beside one another in a row.
 fn typed_parts(alloc: Global, scope: &Scope, parts: &[TExpr]) -> Result<Vec<TypedExpr>, TypeFault>
-    requires inputs { length scope.now.inputs.now < 2 ^ 32 }
+    requires inputs { length scope.now.inputs.now.entries < 2 ^ 32 }
     requires bound { length scope.now.bound.items < 2 ^ 32 }
     ensures parts { IsOneUnlessRefused typed_row result (parts_of (expression_of (scope_of scope.now)) 8 (map formula_of parts.now)) }
     ensures wide { IfOk result (λ found. length found.items ≡ length parts.now) }
@@ -41,7 +41,7 @@ fn typed_parts(alloc: Global, scope: &Scope, parts: &[TExpr]) -> Result<Vec<Type
 
 /// Opening expressions that stand beside one another in a row.
 fn opening_parts(alloc: Global, scope: &Scope, parts: &[TExpr]) -> Result<Vec<TypedExpr>, TypeFault>
-    requires inputs { length scope.now.inputs.now < 2 ^ 32 }
+    requires inputs { length scope.now.inputs.now.entries < 2 ^ 32 }
     requires bound { length scope.now.bound.items < 2 ^ 32 }
     ensures parts { IsOneUnlessRefused typed_row result (parts_of (opening_of (scope_of scope.now)) 8 (map formula_of parts.now)) }
     ensures narrow { IfOk result (λ found. length found.items ≤ 8) }
@@ -58,7 +58,7 @@ fn opening_parts(alloc: Global, scope: &Scope, parts: &[TExpr]) -> Result<Vec<Ty
 
 /// A row.
 pub fn typed_row(alloc: Global, scope: &Scope, row: &TRow) -> Result<Vec<TypedExpr>, TypeFault>
-    requires inputs { length scope.now.inputs.now < 2 ^ 32 }
+    requires inputs { length scope.now.inputs.now.entries < 2 ^ 32 }
     requires bound { length scope.now.bound.items < 2 ^ 32 }
     ensures row { IsOneUnlessRefused typed_row result (row_of (scope_of scope.now) (row_copy row.now)) }
     ensures wide { IfOk result (λ parts. length parts.items ≡ length row.now.parts) }
@@ -72,7 +72,7 @@ pub fn typed_row(alloc: Global, scope: &Scope, row: &TRow) -> Result<Vec<TypedEx
 
 /// The first state of a scan, a fold or an unfold.
 pub fn seed(alloc: Global, scope: &Scope, row: &TRow) -> Result<Vec<TypedExpr>, TypeFault>
-    requires inputs { length scope.now.inputs.now < 2 ^ 32 }
+    requires inputs { length scope.now.inputs.now.entries < 2 ^ 32 }
     requires bound { length scope.now.bound.items < 2 ^ 32 }
     ensures seed { IsOneUnlessRefused typed_row result (seed_of (scope_of scope.now) (row_copy row.now)) }
     ensures narrow { IfOk result (λ parts. length parts.items ≤ 8) }
@@ -132,7 +132,7 @@ fn alike(parts: &[TExpr], row: &[TypedExpr], state: &[Kind]) -> Result<(), TypeF
 
 /// A next state, which is as wide as the state and has its kinds.
 pub fn next(alloc: Global, scope: &Scope, state: &[Kind], row: &TRow) -> Result<Exprs, TypeFault>
-    requires inputs { length scope.now.inputs.now < 2 ^ 32 }
+    requires inputs { length scope.now.inputs.now.entries < 2 ^ 32 }
     requires bound { length scope.now.bound.items < 2 ^ 32 }
     ensures { IsOneUnlessRefused terms_copy result (next_of (scope_of scope.now) state.now (row_copy row.now)) }
 {

@@ -4,12 +4,13 @@ ghost use Rattle.std.specs.Prelude.{◌≡◌, [], ◌<◌, ◌+◌, ◌^◌, �
 ghost use Rattle.pipe_grammar.specs.TreeCopies.{declaration_of, label_of, pattern_of as pattern_copy};
 ghost use Rattle.pipe_types.specs.Checking.{declared_names};
 ghost use Rattle.pipe_types.specs.Checked.{IsOneUnlessRefused};
-ghost use Rattle.pipe_types.specs.Copies.{bound_of, bounds_of, meaning_copy, scope_of};
+ghost use Rattle.pipe_types.specs.Copies.{bound_of, bounds_of, inputs_of, meaning_copy, scope_of};
 ghost use Rattle.pipe_types.specs.Insides.{inside_of, inside_both_of};
 ghost use Rattle.pipe_types.specs.Scopes.{bind, bound_from, distinct, input_from, is_among, is_wide, meaning_of, pattern_of, with_bound};
 ghost use Rattle.pipe_types.specs.Streams.{names_of};
 
 use crate::fault::TypeFault;
+use indexmap::IndexMap;
 use list_denotation::Kind;
 use pipe_grammar::{Decl, Name, TPat};
 use pipe_lexer::InputKind;
@@ -23,11 +24,14 @@ pub struct BoundWord<'a> {
     pub kind: Kind,
 }
 
+/// The declared inputs by their names, in the order of declaration.
+pub type Inputs<'a> = IndexMap<&'a [u8], &'a Decl>;
+
 /// The names that an expression may use: the declared inputs, and the bound words from the outermost
 /// on. A newer name hides an older one of the same spelling, inputs too.
 #[derive(Debug, Drop)]
 pub struct Scope<'a> {
-    pub inputs: &'a [Decl],
+    pub inputs: &'a Inputs<'a>,
     pub bound: Vec<BoundWord<'a>>,
 }
 
@@ -41,7 +45,7 @@ pub enum Meaning {
 impl<'a> Scope<'a> {
     /// What a name stands for, or none where it is not in scope.
     pub fn look_up(&self, name: &[u8]) -> Option<Meaning>
-        requires inputs { length self.now.inputs.now < 2 ^ 32 }
+        requires inputs { length self.now.inputs.now.entries < 2 ^ 32 }
         requires bound { length self.now.bound.items < 2 ^ 32 }
         ensures { option_map meaning_copy result ≡ meaning_of (scope_of self.now) name.now }
     {
@@ -109,18 +113,13 @@ fn bound_named(bound: &[BoundWord], name: &[u8]) -> Option<Meaning>
     found
 }
 
-/// The input with this name.
-fn input_named(inputs: &[Decl], name: &[u8]) -> Option<Meaning>
-    requires { length inputs.now < 2 ^ 32 }
-    ensures { option_map meaning_copy result ≡ input_from 0 (map declaration_of inputs.now) name.now }
+/// The input with this name, by its position in the order of declaration.
+fn input_named(inputs: &Inputs, name: &[u8]) -> Option<Meaning>
+    requires { length inputs.now.entries < 2 ^ 32 }
+    ensures { option_map meaning_copy result ≡ input_from 0 (inputs_of inputs.now) name.now }
 {
-    let mut found = None;
-    for (i, input) in inputs.iter().enumerate() {
-        if input.name.text.as_slice() == name {
-            found = Some(Meaning::Input(i as u32, input.kind));
-        }
-    }
-    found
+    let i = inputs.get_index_of(name)?;
+    Some(Meaning::Input(i as u32, inputs[i].kind))
 }
 
 /// Whether one of these names is spelled so.
@@ -155,28 +154,18 @@ fn distinct(beside: &[Name], names: &[Name]) -> Result<(), TypeFault>
     Ok(())
 }
 
-/// Whether one of these inputs is spelled so.
-fn is_declared(name: &[u8], inputs: &[Decl]) -> bool
-    ensures { result ≡ is_among name.now (names_of (declared_names (map declaration_of inputs.now))) }
+/// The declared inputs by their names, or the second place where a name is declared.
+pub fn inputs_by_name<'a>(alloc: Global, decls: &'a [Decl]) -> Result<Inputs<'a>, TypeFault>
+    ensures names { IsOneUnlessRefused (λ inputs. names_of (declared_names (inputs_of inputs))) result (distinct [] (declared_names (map declaration_of decls.now))) }
+    ensures inputs { IfOk result (λ inputs. inputs_of inputs ≡ map declaration_of decls.now) }
 {
-    for other in inputs {
-        if other.name.text.as_slice() == name {
-            return true;
-        }
-    }
-    false
-}
-
-/// Tests that declared names differ from one another.
-pub fn distinct_inputs(inputs: &[Decl]) -> Result<(), TypeFault>
-    ensures { IsOneUnlessRefused (λ _. names_of (declared_names (map declaration_of inputs.now))) result (distinct [] (declared_names (map declaration_of inputs.now))) }
-{
-    for (i, input) in inputs.iter().enumerate() {
-        if is_declared(input.name.text.as_slice(), &inputs[..i]) {
+    let mut inputs = IndexMap::new(alloc);
+    for input in decls {
+        if inputs.insert(input.name.text.as_slice(), input)?.is_some() {
             return Err(TypeFault::Twice(input.name.at));
         }
     }
-    Ok(())
+    Ok(inputs)
 }
 
 /// Whether a pattern of so many names binds a row of so many words.

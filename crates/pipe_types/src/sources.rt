@@ -29,7 +29,7 @@ fn one_int(alloc: Global) -> Result<Kinds, NoMemory>
 
 /// The items of the array input that is named.
 pub fn items(alloc: Global, scope: &Scope, name: &Name) -> Result<TypedStream, TypeFault>
-    requires inputs { length scope.now.inputs.now < 2 ^ 32 }
+    requires inputs { length scope.now.inputs.now.entries < 2 ^ 32 }
     requires bound { length scope.now.bound.items < 2 ^ 32 }
     ensures stream { IsOneUnlessRefused stream_copy result (source_of (scope_of scope.now) 0 (Array (label_of name.now))) }
     ensures narrow { IfOk result (λ s. length s.kinds ≤ 8) }
@@ -48,7 +48,7 @@ pub fn range(
     low: &TExpr,
     high: &TExpr,
 ) -> Result<TypedStream, TypeFault>
-    requires inputs { length scope.now.inputs.now < 2 ^ 32 }
+    requires inputs { length scope.now.inputs.now.entries < 2 ^ 32 }
     requires bound { length scope.now.bound.items < 2 ^ 32 }
     ensures stream { IsOneUnlessRefused stream_copy result (source_of (scope_of scope.now) 0 (Range (formula_of low.now) (formula_of high.now))) }
     ensures narrow { IfOk result (λ s. length s.kinds ≤ 8) }
@@ -71,7 +71,7 @@ pub fn unfolding<'a>(
     item: &TRow,
     then: &TRow,
 ) -> Result<TypedStream, TypeFault>
-    requires inputs { length scope.now.inputs.now < 2 ^ 32 }
+    requires inputs { length scope.now.inputs.now.entries < 2 ^ 32 }
     requires bound { length scope.now.bound.items + 8 < 2 ^ 32 }
     ensures stream { IsOneUnlessRefused stream_copy result (unfold_of (scope_of scope.now) (row_of first.now) (pattern_of pat.now) (formula_of guard.now) (row_of item.now) (row_of then.now)) }
     ensures narrow { IfOk result (λ s. length s.kinds ≤ 8) }

@@ -28,7 +28,7 @@ pub fn mapped<'a>(
     body: &TRow,
     of: TypedStream,
 ) -> Result<TypedStream, TypeFault>
-    requires inputs { length scope.now.inputs.now < 2 ^ 32 }
+    requires inputs { length scope.now.inputs.now.entries < 2 ^ 32 }
     requires bound { length scope.now.bound.items + 8 < 2 ^ 32 }
     requires narrow { length of.kinds ≤ 8 }
     ensures stream { IsOneUnlessRefused stream_copy result (stage_of (scope_of scope.now) (Map 0 (pattern_of pat.now) (row_of body.now)) (stream_copy of)) }
@@ -51,7 +51,7 @@ fn test<'a>(
     e: &TExpr,
     kinds: &[Kind],
 ) -> Result<Expr, TypeFault>
-    requires inputs { length scope.now.inputs.now < 2 ^ 32 }
+    requires inputs { length scope.now.inputs.now.entries < 2 ^ 32 }
     requires bound { length scope.now.bound.items + 8 < 2 ^ 32 }
     requires narrow { length kinds.now ≤ 8 }
     ensures { IsOneUnlessRefused term_of result (tested_of (scope_of scope.now) (pattern_of pat.now) (formula_of e.now) kinds.now) }
@@ -68,7 +68,7 @@ pub fn filtered<'a>(
     e: &TExpr,
     of: TypedStream,
 ) -> Result<TypedStream, TypeFault>
-    requires inputs { length scope.now.inputs.now < 2 ^ 32 }
+    requires inputs { length scope.now.inputs.now.entries < 2 ^ 32 }
     requires bound { length scope.now.bound.items + 8 < 2 ^ 32 }
     requires narrow { length of.kinds ≤ 8 }
     ensures stream { IsOneUnlessRefused stream_copy result (stage_of (scope_of scope.now) (Filter 0 (pattern_of pat.now) (formula_of e.now)) (stream_copy of)) }
@@ -89,7 +89,7 @@ pub fn taken_while<'a>(
     e: &TExpr,
     of: TypedStream,
 ) -> Result<TypedStream, TypeFault>
-    requires inputs { length scope.now.inputs.now < 2 ^ 32 }
+    requires inputs { length scope.now.inputs.now.entries < 2 ^ 32 }
     requires bound { length scope.now.bound.items + 8 < 2 ^ 32 }
     requires narrow { length of.kinds ≤ 8 }
     ensures stream { IsOneUnlessRefused stream_copy result (stage_of (scope_of scope.now) (TakeWhile 0 (pattern_of pat.now) (formula_of e.now)) (stream_copy of)) }
@@ -109,7 +109,7 @@ pub fn taken(
     count: &TExpr,
     of: TypedStream,
 ) -> Result<TypedStream, TypeFault>
-    requires inputs { length scope.now.inputs.now < 2 ^ 32 }
+    requires inputs { length scope.now.inputs.now.entries < 2 ^ 32 }
     requires bound { length scope.now.bound.items < 2 ^ 32 }
     requires narrow { length of.kinds ≤ 8 }
     ensures stream { IsOneUnlessRefused stream_copy result (stage_of (scope_of scope.now) (Take 0 (formula_of count.now)) (stream_copy of)) }
@@ -129,7 +129,7 @@ pub fn dropped(
     skipped: &TExpr,
     of: TypedStream,
 ) -> Result<TypedStream, TypeFault>
-    requires inputs { length scope.now.inputs.now < 2 ^ 32 }
+    requires inputs { length scope.now.inputs.now.entries < 2 ^ 32 }
     requires bound { length scope.now.bound.items < 2 ^ 32 }
     requires narrow { length of.kinds ≤ 8 }
     ensures stream { IsOneUnlessRefused stream_copy result (stage_of (scope_of scope.now) (Drop 0 (formula_of skipped.now)) (stream_copy of)) }
@@ -152,7 +152,7 @@ pub fn scanned<'a>(
     next: &TRow,
     of: TypedStream,
 ) -> Result<TypedStream, TypeFault>
-    requires inputs { length scope.now.inputs.now < 2 ^ 32 }
+    requires inputs { length scope.now.inputs.now.entries < 2 ^ 32 }
     requires bound { length scope.now.bound.items + 16 < 2 ^ 32 }
     requires narrow { length of.kinds ≤ 8 }
     ensures stream { IsOneUnlessRefused stream_copy result (stage_of (scope_of scope.now) (Scan 0 (row_of seed.now) (pattern_of state.now) (pattern_of pat.now) (row_of next.now)) (stream_copy of)) }

@@ -34,7 +34,7 @@ fn flattened<'a>(
     inner: &'a TStream,
     of: TypedStream,
 ) -> Result<TypedStream, TypeFault>
-    requires inputs { length scope.now.inputs.now < 2 ^ 32 }
+    requires inputs { length scope.now.inputs.now.entries < 2 ^ 32 }
     requires bound { length scope.now.bound.items + 8 * (stream_nesting (stream_tree inner.now) + 1) ≤ 128 }
     requires narrow { length of.kinds ≤ 8 }
     ensures stream { IsOneUnlessRefused stream_copy result (stage_of (scope_of scope.now) (FlatMap 0 (pattern_of pat.now) (stream_tree inner.now)) (stream_copy of)) }
@@ -56,7 +56,7 @@ fn typed_source<'a>(
     at: u32,
     source: &'a TSource,
 ) -> Result<TypedStream, TypeFault>
-    requires inputs { length scope.now.inputs.now < 2 ^ 32 }
+    requires inputs { length scope.now.inputs.now.entries < 2 ^ 32 }
     requires bound { length scope.now.bound.items + 8 * source_nesting (source_tree source.now) ≤ 128 }
     ensures stream { IsOneUnlessRefused stream_copy result (source_of (scope_of scope.now) at (source_tree source.now)) }
     ensures narrow { IfOk result (λ s. length s.kinds ≤ 8) }
@@ -87,7 +87,7 @@ fn typed_stage<'a>(
     stage: &'a TStage,
     of: TypedStream,
 ) -> Result<TypedStream, TypeFault>
-    requires inputs { length scope.now.inputs.now < 2 ^ 32 }
+    requires inputs { length scope.now.inputs.now.entries < 2 ^ 32 }
     requires bound { length scope.now.bound.items + 8 * stage_nesting (stage_tree stage.now) ≤ 128 }
     requires narrow { length of.kinds ≤ 8 }
     ensures stream { IsOneUnlessRefused stream_copy result (stage_of (scope_of scope.now) (stage_tree stage.now) (stream_copy of)) }
@@ -117,7 +117,7 @@ fn typed_stages<'a>(
     stages: &'a [TStage],
     of: TypedStream,
 ) -> Result<TypedStream, TypeFault>
-    requires inputs { length scope.now.inputs.now < 2 ^ 32 }
+    requires inputs { length scope.now.inputs.now.entries < 2 ^ 32 }
     requires bound { length scope.now.bound.items + 8 * stages_nesting (stages_tree stages.now) ≤ 128 }
     requires narrow { length of.kinds ≤ 8 }
     ensures stream { IsOneUnlessRefused stream_copy result (stages_of (scope_of scope.now) (stages_tree stages.now) (stream_copy of)) }
@@ -137,7 +137,7 @@ pub fn typed_stream<'a>(
     scope: &Scope<'a>,
     stream: &'a TStream,
 ) -> Result<TypedStream, TypeFault>
-    requires inputs { length scope.now.inputs.now < 2 ^ 32 }
+    requires inputs { length scope.now.inputs.now.entries < 2 ^ 32 }
     requires bound { length scope.now.bound.items + 8 * stream_nesting (stream_tree stream.now) ≤ 128 }
     ensures stream { IsOneUnlessRefused stream_copy result (stream_of (scope_of scope.now) (stream_tree stream.now)) }
     ensures narrow { IfOk result (λ s. length s.kinds ≤ 8) }
@@ -153,7 +153,7 @@ pub fn typed_terminal<'a>(
     terminal: &'a TTerminal,
     row: &[Kind],
 ) -> Result<Terminal, TypeFault>
-    requires inputs { length scope.now.inputs.now < 2 ^ 32 }
+    requires inputs { length scope.now.inputs.now.entries < 2 ^ 32 }
     requires bound { length scope.now.bound.items + 16 < 2 ^ 32 }
     requires narrow { length row.now ≤ 8 }
     ensures { IsOneUnlessRefused finish_of result (terminal_of (scope_of scope.now) (terminal_tree terminal.now) row.now) }

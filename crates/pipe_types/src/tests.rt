@@ -22,105 +22,136 @@ fn shown(alloc: Global, src: &[u8]) -> Result<String, Fail> {
 }
 
 #[test]
-fn names_each_fault_at_its_place(rt: HostRuntime) -> Result<(), Fail> {
-    let cases: [(&[u8], &str); 34] = [
+fn names_the_fault_of_a_name(rt: HostRuntime) -> Result<(), Fail> {
+    let cases: [(&str, &str); 8] = [
+        ("range(0, 3) | map x -> y | print", "Unknown(23)"),
+        ("input a: int; input a: array; array a | print", "Twice(20)"),
         (
-            b"input a: array; array a | map x -> x && true | print",
-            "Mismatch(35)",
-        ),
-        (b"range(0, 10 / 2) | print", "DivisionInOpening(12)"),
-        (
-            b"range(0, 1) | map x -> {x, x, x, x, x, x, x, x, x} | print",
-            "TooWide(48)",
-        ),
-        (b"range(0, 3) | map x -> y | print", "Unknown(23)"),
-        (
-            b"input a: int; input a: array; array a | print",
-            "Twice(20)",
-        ),
-        (
-            b"zip(range(0, 1), range(0, 1)) | map {x, x} -> x | print",
+            "zip(range(0, 1), range(0, 1)) | map {x, x} -> x | print",
             "Twice(40)",
         ),
-        (b"range(0, 3) | fold 0 with s s -> s", "Twice(28)"),
+        ("range(0, 3) | fold 0 with s s -> s", "Twice(28)"),
+        ("input n: int; array n | print", "NotArray(20)"),
+        ("range(0, 3) | map x -> len(x) | print", "NotArray(27)"),
+        ("array a | print", "Unknown(6)"),
+        ("range(0, 3) | scan x with s x -> s | print", "Unknown(19)"),
+    ];
+    for (src, want) in cases {
+        assert_eq!(rt; shown(rt.alloc(), src.as_bytes())?.as_str(), want);
+    }
+    Ok(())
+}
+
+#[test]
+fn names_the_fault_of_a_kind(rt: HostRuntime) -> Result<(), Fail> {
+    let cases: [(&str, &str); 13] = [
         (
-            b"range(0, 3) | map {x, y} -> x | print",
-            "WidthMismatch(18)",
+            "input a: array; array a | map x -> x && true | print",
+            "Mismatch(35)",
         ),
         (
-            b"range(0, 3) | scan 0 with s x -> {s, x} | print",
-            "WidthMismatch(33)",
-        ),
-        (
-            b"range(0, 3) | scan 0 with s x -> x == 1 | print",
+            "range(0, 3) | scan 0 with s x -> x == 1 | print",
             "Mismatch(33)",
         ),
         (
-            b"zip(range(0, 1) | map x -> {x, x, x, x, x}, range(0, 1) | map x -> {x, x, x, x}) | print",
-            "TooWide(0)",
-        ),
-        (b"input n: int; array n | print", "NotArray(20)"),
-        (b"range(0, 3) | map x -> len(x) | print", "NotArray(27)"),
-        (b"array a | print", "Unknown(6)"),
-        (
-            b"input a: array; range(0, 3) | map x -> a | print",
+            "input a: array; range(0, 3) | map x -> a | print",
             "Mismatch(39)",
         ),
-        (b"range(0, 3) | filter x -> x | print", "Mismatch(26)"),
+        ("range(0, 3) | filter x -> x | print", "Mismatch(26)"),
+        ("range(0, 3) | takeWhile x -> x + 1 | print", "Mismatch(29)"),
+        ("range(0, 3) | take true | print", "Mismatch(19)"),
         (
-            b"range(0, 3) | takeWhile x -> x + 1 | print",
-            "Mismatch(29)",
-        ),
-        (b"range(0, 3) | take true | print", "Mismatch(19)"),
-        (b"range(0, 3) | drop 4 % 2 | print", "DivisionInOpening(21)"),
-        (
-            b"unfold 0 with s while s / 2 < 3 yield s next s + 1 | print",
-            "DivisionInOpening(24)",
-        ),
-        (
-            b"unfold 0 with s while s yield s next s | print",
+            "unfold 0 with s while s yield s next s | print",
             "Mismatch(22)",
         ),
+        ("range(true / 2, 1) | print", "Mismatch(6)"),
         (
-            b"range(0, 3) | fold 1 / 1 with s x -> s",
-            "DivisionInOpening(21)",
-        ),
-        (b"range(true / 2, 1) | print", "Mismatch(6)"),
-        (
-            b"range(0, 3) | filter x -> x == true | print",
+            "range(0, 3) | filter x -> x == true | print",
             "Mismatch(31)",
         ),
         (
-            b"range(0, 3) | map x -> if x then 1 else 2 | print",
+            "range(0, 3) | map x -> if x then 1 else 2 | print",
             "Mismatch(26)",
         ),
         (
-            b"range(0, 3) | map x -> if x < 1 then 1 else false | print",
+            "range(0, 3) | map x -> if x < 1 then 1 else false | print",
             "Mismatch(44)",
         ),
-        (b"range(0, 3) | map x -> -(x == 1) | print", "Mismatch(24)"),
-        (b"range(0, 3) | map x -> !x | print", "Mismatch(24)"),
-        (b"range(0, 3) | scan x with s x -> s | print", "Unknown(19)"),
-        (b"range(0, 3) | map x -> x / 2 | print", "typed"),
+        ("range(0, 3) | map x -> -(x == 1) | print", "Mismatch(24)"),
+        ("range(0, 3) | map x -> !x | print", "Mismatch(24)"),
+    ];
+    for (src, want) in cases {
+        assert_eq!(rt; shown(rt.alloc(), src.as_bytes())?.as_str(), want);
+    }
+    Ok(())
+}
+
+#[test]
+fn names_the_fault_of_a_row_or_pattern(rt: HostRuntime) -> Result<(), Fail> {
+    let cases: [(&str, &str); 4] = [
         (
-            b"input x: array; range(0, 3) | map x -> x + 1 | print",
+            "range(0, 1) | map x -> {x, x, x, x, x, x, x, x, x} | print",
+            "TooWide(48)",
+        ),
+        ("range(0, 3) | map {x, y} -> x | print", "WidthMismatch(18)"),
+        (
+            "range(0, 3) | scan 0 with s x -> {s, x} | print",
+            "WidthMismatch(33)",
+        ),
+        (
+            "zip(range(0, 1) | map x -> {x, x, x, x, x}, range(0, 1) | map x -> {x, x, x, x}) | print",
+            "TooWide(0)",
+        ),
+    ];
+    for (src, want) in cases {
+        assert_eq!(rt; shown(rt.alloc(), src.as_bytes())?.as_str(), want);
+    }
+    Ok(())
+}
+
+#[test]
+fn names_a_division_that_opens_a_stage(rt: HostRuntime) -> Result<(), Fail> {
+    let cases: [(&str, &str); 4] = [
+        ("range(0, 10 / 2) | print", "DivisionInOpening(12)"),
+        ("range(0, 3) | drop 4 % 2 | print", "DivisionInOpening(21)"),
+        (
+            "unfold 0 with s while s / 2 < 3 yield s next s + 1 | print",
+            "DivisionInOpening(24)",
+        ),
+        (
+            "range(0, 3) | fold 1 / 1 with s x -> s",
+            "DivisionInOpening(21)",
+        ),
+    ];
+    for (src, want) in cases {
+        assert_eq!(rt; shown(rt.alloc(), src.as_bytes())?.as_str(), want);
+    }
+    Ok(())
+}
+
+#[test]
+fn gives_a_program_where_there_is_no_fault(rt: HostRuntime) -> Result<(), Fail> {
+    let cases: [(&str, &str); 5] = [
+        ("range(0, 3) | map x -> x / 2 | print", "typed"),
+        (
+            "input x: array; range(0, 3) | map x -> x + 1 | print",
             "typed",
         ),
         (
-            b"range(0, 1) | map x -> x == 0 | flatMap x -> (range(0, 1) | map x -> x + 1) | print",
+            "range(0, 1) | map x -> x == 0 | flatMap x -> (range(0, 1) | map x -> x + 1) | print",
             "typed",
         ),
         (
-            b"range(0, 1) | map x -> x == 0 | flatMap x -> (range(0, 1) | filter y -> x) | print",
+            "range(0, 1) | map x -> x == 0 | flatMap x -> (range(0, 1) | filter y -> x) | print",
             "typed",
         ),
         (
-            b"input n: int; range(0, n) | fold {0, true} with {s, b} x -> {s + x, b && x < n}",
+            "input n: int; range(0, n) | fold {0, true} with {s, b} x -> {s + x, b && x < n}",
             "typed",
         ),
     ];
     for (src, want) in cases {
-        assert_eq!(rt; shown(rt.alloc(), src)?.as_str(), want);
+        assert_eq!(rt; shown(rt.alloc(), src.as_bytes())?.as_str(), want);
     }
     Ok(())
 }

@@ -1,7 +1,7 @@
 use Rattle.std.proofs.Common.{rules}
 use Rattle.pipe_grammar.specs.TreeCopies.{text_of}
 use Rattle.pipe_types.proofs.TypedPrograms.{checked_program}
-use Rattle.pipe_types.proofs.checking.check.Goals as goal
+use Rattle.pipe_types.proofs.checking.program_with.Goals as goal
 
 pub invariant_of-result : goal.invariant_of-result
 invariant_of-result c = record {
