@@ -1,9 +1,9 @@
 #!/usr/bin/env bash
-# Prints how long strymonas takes to read pipeline texts: texts of 1, 4, 16 and 64 KiB, an expression
-# 200 deep, streams nested 16 deep, and a text of 65,536 opening parentheses, which is refused.
-# Each line is the least of several runs of `compile`, in milliseconds, and what the run answered. A text
-# that is read whole and not compiled yet is answered `Unbuilt at 0`. The first line is a text of no
-# bytes: what starting the program takes.
+# Prints how long strymonas takes to read pipeline texts and find their kinds: texts of 1, 4, 16 and
+# 64 KiB, an expression 200 deep, streams nested 16 deep, and a text of 65,536 opening parentheses, which is
+# refused. Each line is the least of several runs of `check`, in milliseconds, and what the run answered
+# on standard error, which is nothing where the text is read whole. The first line is a text of no bytes:
+# what starting the program takes.
 set -eu
 cd "$(dirname "$0")/.."
 program=$PWD/crates/strymonas_cli/out/strymonas_cli
@@ -14,17 +14,16 @@ fi
 work=$(mktemp -d)
 trap 'rm -rf "$work"' EXIT
 
-# text BYTES: a map whose row has as many parts as there is room for, each of five nodes
+# text BYTES: an array and a map of 527 bytes as often as there is room for, and then blanks
 text() {
   awk -v bytes="$1" 'BEGIN {
-    name = "x"; while (length(name) < 30) name = name "x"
-    part = name " * " name " + 1"
-    head = "range(0, 1) | map " name " -> {" part
-    printf "%s", head
-    n = length(head) + length("} | print\n")
-    while (n + length(part) + 2 <= bytes) { printf ", %s", part; n += length(part) + 2 }
-    while (n < bytes) { printf " "; n++ }
-    printf "} | print\n"
+    name = "x"; while (length(name) < 170) name = name "x"
+    stage = " | map " name " -> " name " * " name " + 1"
+    text = "input a: array; array a"
+    end = " | print\n"
+    while (length(text) + length(stage) + length(end) <= bytes) text = text stage
+    while (length(text) + length(end) < bytes) text = text " "
+    printf "%s%s", text, end
   }'
 }
 
@@ -55,7 +54,7 @@ least() {
   best=
   for _ in 1 2 3 4 5 6 7 8 9; do
     from=$(date +%s%N)
-    "$program" compile "$1" >"$work/out" 2>"$work/err" || true
+    "$program" check "$1" >"$work/out" 2>"$work/err" || true
     spent=$(($(date +%s%N) - from))
     if [ -z "$best" ] || [ "$spent" -lt "$best" ]; then best=$spent; fi
   done
