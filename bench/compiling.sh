@@ -9,13 +9,7 @@
 # a line for each pair of signs.
 set -eu
 cd "$(dirname "$0")/.."
-program=$PWD/crates/strymonas_cli/out/strymonas_cli
-if [ ! -x "$program" ]; then
-  echo "there is no $program: rt ci leaves it there"
-  exit 1
-fi
-work=$(mktemp -d)
-trap 'rm -rf "$work"' EXIT
+. examples/program.sh
 
 # mapped EXPR: a pipeline whose rows are this expression
 mapped() {

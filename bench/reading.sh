@@ -6,13 +6,7 @@
 # what starting the program takes.
 set -eu
 cd "$(dirname "$0")/.."
-program=$PWD/crates/strymonas_cli/out/strymonas_cli
-if [ ! -x "$program" ]; then
-  echo "there is no $program: rt ci leaves it there"
-  exit 1
-fi
-work=$(mktemp -d)
-trap 'rm -rf "$work"' EXIT
+. examples/program.sh
 
 # text BYTES: an array and a map of 527 bytes as often as there is room for, and then blanks
 text() {

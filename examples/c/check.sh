@@ -5,13 +5,7 @@
 # program that the gate leaves.
 set -eu
 cd "$(dirname "$0")"
-program=$(cd ../../crates/strymonas_cli && pwd)/out/strymonas_cli
-if [ ! -x "$program" ]; then
-  echo "there is no $program: rt ci leaves it there"
-  exit 1
-fi
-work=$(mktemp -d)
-trap 'rm -rf "$work"' EXIT
+. ../program.sh
 inputs=0
 
 # built NAME: makes a program of the C text of NAME.strm and the driver

@@ -4,13 +4,7 @@
 # language says, over 36 pairs of ints.
 set -eu
 cd "$(dirname "$0")"
-program=$(cd ../../crates/strymonas_cli && pwd)/out/strymonas_cli
-if [ ! -x "$program" ]; then
-  echo "there is no $program: rt ci leaves it there"
-  exit 1
-fi
-work=$(mktemp -d)
-trap 'rm -rf "$work"' EXIT
+. ../program.sh
 
 # strict WORD..: a form needn't read x, y and the item of the array, so C texts may set or have what
 # they don't read; every other warning is an error
