@@ -8,10 +8,7 @@ ghost use Rattle.expr_lower.specs.Phrases.{flipped, signed_less, compared};
 use list_denotation::BinOp;
 use loop_ir::{T, W, WOp};
 use std::alloc::Global;
-use strm_num::{NoMemory, Word};
-
-/// The sign bit, which is 2^63.
-pub const SIGN: Word = 1 << 63;
+use strm_num::{NoMemory, SIGN};
 
 /// The word with its sign bit turned round.
 fn flipped(alloc: Global, w: W) -> Result<W, NoMemory>

@@ -1,17 +1,15 @@
 //! The statements of signed division: unsigned division of magnitudes, with the sign set afterwards.
 
 ghost use Rattle.std.specs.Prelude.{◌≡◌, ◌^◌, IfOk, OnOk};
-ghost use Rattle.strm_num.specs.Magnitudes.{is_negative, magnitude_of};
 ghost use Rattle.loop_ir.specs.Statements.{Less, Const, Nil, join};
 ghost use Rattle.loop_ir.specs.StatementCopies.{operand_of, test_of, block_of};
 ghost use Rattle.expr_lower.specs.Phrases.{minus, set, with_minus, result_negative, division_operator, divided_magnitudes, by_dividend, zero_test, by_divisor};
 ghost use Rattle.expr_lower.specs.FormCopies.{division_of};
 
-use crate::comparison::SIGN;
 use crate::forms::{assignment, minus};
 use loop_ir::{Stmt, Stmts, T, Verdict, W, WOp};
 use std::alloc::Global;
-use strm_num::{NoMemory, Word};
+use strm_num::{NoMemory, SIGN, Word, is_negative, magnitude};
 
 /// What a division gives.
 #[derive(Clone, Copy, Debug, PartialEq, Eq)]
@@ -49,20 +47,6 @@ fn minus_of(alloc: Global, w: &W) -> Result<W, NoMemory>
     ensures { IfOk result (λ made. operand_of made ≡ minus (operand_of w.now)) }
 {
     minus(alloc, copy(alloc, w)?)
-}
-
-/// Whether the signed value is below 0.
-fn is_negative(c: Word) -> bool
-    ensures { result ≡ is_negative c }
-{
-    c >= SIGN
-}
-
-/// The distance of the signed value from 0, at most 2^63.
-fn magnitude(c: Word) -> Word
-    ensures { result ≡ magnitude_of c }
-{
-    if is_negative(c) { c.wrapping_neg() } else { c }
 }
 
 /// Whether the signed value of the word isn't below 0.

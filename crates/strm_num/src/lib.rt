@@ -15,7 +15,7 @@ mod tests;
 
 pub use list::List;
 pub use memory::NoMemory;
-pub use signed_words::{div_signed, less_signed, rem_signed};
+pub use signed_words::{SIGN, div_signed, is_negative, less_signed, magnitude, rem_signed};
 
 /// A number from 0 to 2^64 - 1. Its signed value is itself below 2^63, else itself minus 2^64.
 pub type Word = u64;

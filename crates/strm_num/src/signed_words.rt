@@ -4,18 +4,18 @@ ghost use Rattle.strm_num.specs.Magnitudes.{is_negative, magnitude_of, with_sign
 
 use crate::Word;
 
-/// The sign bit, which is 2^63.
-const SIGN: Word = 1 << 63;
+/// The sign bit, which is 2^63: it is set in the words of negative values alone.
+pub const SIGN: Word = 1 << 63;
 
 /// Whether the signed value is below 0.
-fn is_negative(x: Word) -> bool
+pub fn is_negative(x: Word) -> bool
     ensures { result ≡ is_negative x }
 {
     x >= SIGN
 }
 
 /// The distance of the signed value from 0, at most 2^63.
-fn magnitude(x: Word) -> Word
+pub fn magnitude(x: Word) -> Word
     ensures { result ≡ magnitude_of x }
 {
     with_sign(is_negative(x), x)
