@@ -1,5 +1,5 @@
 -- What statements do that come to a value: they go on with it, or the run is over where there is none.
-use Rattle.std.proofs.Common.{◌≡◌, ◌≢◌, inl, inr, ℕ, ◌+◌, ◌<◌, ◌^◌, Bool, true, false, List, [], append-nil, length, refl, ap, ◌∙◌, arith}
+use Rattle.std.proofs.Common.{◌≡◌, ◌≢◌, ℕ, ◌+◌, ◌<◌, ◌^◌, Bool, true, false, List, [], append-nil, length, refl, ap, ◌∙◌, arith}
 use Rattle.std.specs.Prelude.{slice_index, slice_set}
 use Rattle.std.proofs.lemmas.List.{get_or-set_same, get_or-set_other, length-set}
 use Rattle.strm_num.specs.Words.{truth_of}
@@ -10,9 +10,15 @@ use Rattle.loop_ir.specs.Statements.{Operand, Const, Test, If, Block, Nil, Cons,
 use Rattle.loop_ir.specs.Meaning.{Outcome, Runs, Over, then_do, on_value, on_test, operand_value, test_value, run}
 use Rattle.loop_ir.proofs.Joins.{after_nothing, goes_on, run_join}
 use Rattle.expr_lower.specs.Phrases.{set, set_truth}
-use Rattle.expr_lower.specs.Scopes.{IsOutside, Kept}
+use Rattle.expr_lower.specs.Scopes.{IsOutside}
+use Rattle.expr_lower.proofs.Apart.{not_outside, outside_more}
 
 -- ---- variables that are kept
+
+-- the variables but v and the temporaries are as they were
+pub record Kept (v t top : ℕ) (env env' : List ℕ) : Type 0 where
+  pub same : length env' ≡ length env
+  pub others : (x : ℕ) → x ≢ v → IsOutside t top x → slice_index env' x ≡ slice_index env x
 
 pub kept_all : (v t top : ℕ) (env : List ℕ) → Kept v t top env env
 kept_all v t top env = record { same = refl; others = λ x other outside. refl }
@@ -28,15 +34,6 @@ kept_set v t top env y = record {
   same = length-set env v y;
   others = λ x other outside. get_or-set_other env v x y 0 other;
 }
-
--- a temporary is none of the variables outside
-pub not_outside : (t top x : ℕ) → t < top → IsOutside t top x → x ≢ t
-not_outside t top x lt (inl less) = λ e. omega (arith, less, e)
-not_outside t top x lt (inr more) = λ e. omega (arith, more, lt, e)
-
-pub outside_more : (t top x : ℕ) → IsOutside t top x → IsOutside (t + 1) top x
-outside_more t top x (inl less) = inl (omega (arith, less))
-outside_more t top x (inr more) = inr more
 
 -- what keeps all but a first temporary and those after it keeps all but the temporaries
 pub kept_right : (v t top : ℕ) (a b : List ℕ) → t < top → Kept t (t + 1) top a b → Kept v t top a b

@@ -1,4 +1,5 @@
 pub mod WorkedRows
+pub mod Apart
 pub mod Effects
 pub mod Plain
 pub mod PlainValues

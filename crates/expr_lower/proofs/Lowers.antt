@@ -18,13 +18,14 @@ use Rattle.loop_ir.specs.Meaning.{Runs, operand_value, test_value, run}
 use Rattle.expr_lower.specs.Phrases.{Division, Quotient, Remainder, set, minus, set_truth, opposite, flipped, signed_less, compared, by_divisor}
 use Rattle.expr_lower.specs.Lowering.{Lowered, Form, AWord, ATest, InTarget, is_word, as_word, in_target, operand_block, operand_in, condition_in, into, constant_of, is_simple, held_block, held_in, lowered_minus, lowered_arithmetic, lowered_comparison, lowered_division, lowered_operation, is_empty, lowered}
 use Rattle.expr_lower.specs.Costs.{is_plain, is_direct, temps_of}
-use Rattle.expr_lower.specs.Scopes.{HasWords, IsApart, Kept, Stands}
-use Rattle.expr_lower.proofs.Effects.{Arrives, Comes, IsIn, then_comes, maps, nothing_comes, set_comes, first_comes, second_comes, set_truth_comes}
+use Rattle.expr_lower.specs.Scopes.{HasWords, Stands}
+use Rattle.expr_lower.proofs.Apart.{IsApart, apart_right}
+use Rattle.expr_lower.proofs.Effects.{Kept, Arrives, Comes, IsIn, then_comes, maps, nothing_comes, set_comes, first_comes, second_comes, set_truth_comes}
 use Rattle.expr_lower.proofs.Plain.{plain_form}
 use Rattle.expr_lower.proofs.PlainValues.{arithmetic_operator, arithmetic_value, arithmetic_word, truth_word}
 use Rattle.expr_lower.proofs.Divisions.{result_of, divisor_comes, minus_value}
 use Rattle.expr_lower.proofs.Uses.{is_true, HasTruth, IsFound, IsCondition, stands_still, condition_comes, target_comes, opposite_is}
-use Rattle.expr_lower.proofs.Operands.{Ready, still_ready, IsLowered, IsHeld, BothAre, plain_comes, apart_right, left_comes, held_comes, right_comes, held_right, operands_come}
+use Rattle.expr_lower.proofs.Operands.{Ready, still_ready, IsLowered, IsHeld, BothAre, plain_comes, left_comes, held_comes, right_comes, held_right, operands_come}
 
 -- ---- comparisons
 

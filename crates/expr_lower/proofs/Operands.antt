@@ -2,35 +2,19 @@
 use Rattle.std.proofs.Common.{◌≡◌, ℕ, ◌+◌, ◌<◌, ◌≤◌, ◌^◌, Bool, true, false, List, length, refl, sym, ap, ◌∙◌, subst}
 use Rattle.std.specs.Prelude.{slice_index, IsTrue}
 use Rattle.list_denotation.specs.declared.input.Input.{Input}
-use Rattle.list_denotation.specs.Terms as term
 use Rattle.list_denotation.specs.Terms.{Term}
 use Rattle.list_denotation.specs.Values.{Got, Is, Fails, with_value, value}
 use Rattle.loop_ir.specs.Statements.{Operand, Var, Block, Nil, join}
 use Rattle.loop_ir.specs.Meaning.{operand_value}
 use Rattle.expr_lower.specs.Lowering.{Lowered, as_word, operand_block, operand_in, is_simple, held_block, held_in, into, constant_of, lowered}
 use Rattle.expr_lower.specs.Costs.{is_plain, temps_of}
-use Rattle.expr_lower.specs.Scopes.{HasWords, IsOutside, IsApart, Kept, Stands}
-use Rattle.expr_lower.proofs.Effects.{Arrives, Comes, IsIn, not_outside, outside_more, kept_right, kept_twice, then_comes, holds_too, nothing_comes}
+use Rattle.expr_lower.specs.Scopes.{HasWords, IsOutside, Stands}
+use Rattle.expr_lower.proofs.Apart.{IsApart, not_outside, outside_more}
+use Rattle.expr_lower.proofs.Effects.{Kept, Arrives, Comes, IsIn, kept_right, kept_twice, then_comes, holds_too, nothing_comes}
 use Rattle.expr_lower.proofs.Plain.{simple_plain}
 use Rattle.expr_lower.proofs.PlainValues.{plain_word, plain_value, plain_lowered, value_plain, plain_holds, plain_is_word}
 use Rattle.expr_lower.proofs.Divisions.{IsKnown, constant_known}
 use Rattle.expr_lower.proofs.Uses.{IsFound, IsOperand, stands_still, operand_comes, target_comes}
-
--- the right operand's variables are apart from its target, the first temporary
-pub apart_right : (rows : List ℕ) (v t top : ℕ) (e : Term) → t < top → IsApart rows v t top e → IsApart rows t (t + 1) top e
-apart_right rows v t top (term.Lit c) lt apart = tt
-apart_right rows v t top (term.Truth b) lt apart = tt
-apart_right rows v t top (term.Var k) lt apart =
-    (not_outside t top (slice_index rows k) lt apart.1, outside_more t top (slice_index rows k) apart.1)
-apart_right rows v t top (term.Param k) lt apart = tt
-apart_right rows v t top (term.Len k) lt apart = tt
-apart_right rows v t top (term.Neg a) lt apart = apart_right rows v t top a lt apart
-apart_right rows v t top (term.Not a) lt apart = apart_right rows v t top a lt apart
-apart_right rows v t top (term.Bin o a b) lt apart = (apart_right rows v t top a lt apart.0, apart_right rows v t top b lt apart.1)
-apart_right rows v t top (term.And a b) lt apart = (apart_right rows v t top a lt apart.0, apart_right rows v t top b lt apart.1)
-apart_right rows v t top (term.Or a b) lt apart = (apart_right rows v t top a lt apart.0, apart_right rows v t top b lt apart.1)
-apart_right rows v t top (term.If c a b) lt apart =
-    (apart_right rows v t top c lt apart.0, (apart_right rows v t top a lt apart.1.0, apart_right rows v t top b lt apart.1.1))
 
 module _ (rows words : List ℕ) (inputs : List Input) where
   -- an expression whose statements may run: target and temporaries are there, and apart from what it reads

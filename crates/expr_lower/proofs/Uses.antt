@@ -11,8 +11,9 @@ use Rattle.loop_ir.specs.Statements.{Operand, Const, Var, Test, Less, Same, Both
 use Rattle.loop_ir.specs.Meaning.{operand_value, test_value}
 use Rattle.expr_lower.specs.Phrases.{set, set_truth, opposite}
 use Rattle.expr_lower.specs.Lowering.{Form, AWord, ATest, InTarget, operand_rest, operand_in, condition_in, target_rest}
-use Rattle.expr_lower.specs.Scopes.{IsApart, Kept, Stands}
-use Rattle.expr_lower.proofs.Effects.{Comes, Arrives, IsIn, then_keeps, holds_too, nothing_comes, set_comes, set_truth_comes}
+use Rattle.expr_lower.specs.Scopes.{Stands}
+use Rattle.expr_lower.proofs.Apart.{IsApart}
+use Rattle.expr_lower.proofs.Effects.{Kept, Comes, Arrives, IsIn, then_keeps, holds_too, nothing_comes, set_comes, set_truth_comes}
 
 -- 0 is false, and every other word is true
 abbrev pub is_true : ℕ → Bool

@@ -7,7 +7,7 @@ use Rattle.list_denotation.specs.Observation.{Failed}
 use Rattle.loop_ir.specs.DeclaredNames.{Names, block_names}
 use Rattle.loop_ir.specs.Statements.{Block}
 use Rattle.loop_ir.specs.Meaning.{Runs, Over, run}
-use Rattle.expr_lower.specs.Scopes.{IsOutside, IsApart, Stands, MayName}
+use Rattle.expr_lower.specs.Scopes.{IsOutside, IsUnread, Stands, MayName}
 
 -- where the words of a scope stand, and which variables are temporaries: those from `first_temp` up to but without `top`
 pub record Scope : Type 0 where
@@ -18,10 +18,10 @@ pub record Scope : Type 0 where
 abbrev pub scope_of : List ℕ → ℕ → ℕ → Scope
 scope_of rows first_temp temps = record { rows = rows; first_temp = first_temp; top = first_temp + temps }
 
--- the target is no temporary, and no word that the expression reads stands in it or in a temporary
+-- the target is no temporary, and no word that the expression reads stands in it
 pub record IsTarget (scope : Scope) (e : Term) (target : ℕ) : Type 0 where
   pub outside : IsOutside scope.first_temp scope.top target
-  pub apart : IsApart scope.rows target scope.first_temp scope.top e
+  pub unread : IsUnread scope.rows target e
 
 module _ (scope : Scope) (target : ℕ) (inputs : List Input) (block : Block) (env : List ℕ) where
   -- the statements go on without an event and without a turn. The target holds the value, and no other variable has

@@ -46,22 +46,17 @@ module _ (rows words : List ℕ) (inputs : List Input) where
 abbrev pub IsOutside : ℕ → ℕ → ℕ → Type 0
 IsOutside t top x = (x < t) ⊎ (top ≤ x)
 
--- no word that the expression reads stands in v, or in a temporary from t up to but without top
-module _ (rows : List ℕ) (v t top : ℕ) where
-  abbrev pub IsApart : Term → Type 0
-  IsApart (Var k) = (slice_index rows k ≢ v) × IsOutside t top (slice_index rows k)
-  IsApart (Neg a) = IsApart a
-  IsApart (Not a) = IsApart a
-  IsApart (Bin o a b) = IsApart a × IsApart b
-  IsApart (And a b) = IsApart a × IsApart b
-  IsApart (Or a b) = IsApart a × IsApart b
-  IsApart (If c a b) = IsApart c × (IsApart a × IsApart b)
-  IsApart _ = Unit {0}
-
--- the variables but v and the temporaries are as they were
-pub record Kept (v t top : ℕ) (env env' : List ℕ) : Type 0 where
-  pub same : length env' ≡ length env
-  pub others : (x : ℕ) → x ≢ v → IsOutside t top x → slice_index env' x ≡ slice_index env x
+-- no word that the expression reads stands in v
+module _ (rows : List ℕ) (v : ℕ) where
+  abbrev pub IsUnread : Term → Type 0
+  IsUnread (Var k) = slice_index rows k ≢ v
+  IsUnread (Neg a) = IsUnread a
+  IsUnread (Not a) = IsUnread a
+  IsUnread (Bin o a b) = IsUnread a × IsUnread b
+  IsUnread (And a b) = IsUnread a × IsUnread b
+  IsUnread (Or a b) = IsUnread a × IsUnread b
+  IsUnread (If c a b) = IsUnread c × (IsUnread a × IsUnread b)
+  IsUnread _ = Unit {0}
 
 -- the names that the expression reads may stand in a text
 module _ (may : Names) (rows : List ℕ) where

@@ -10,7 +10,8 @@ use Rattle.list_denotation.specs.declared.input.InputKind.TheVariants as kind
 use Rattle.list_denotation.specs.Inputs.{items_in, word_in, Fits}
 use Rattle.list_denotation.specs.Terms as term
 use Rattle.list_denotation.specs.Terms.{Term}
-use Rattle.expr_lower.specs.Scopes.{IsBound, IsApart, Stands}
+use Rattle.expr_lower.specs.Scopes.{IsBound, Stands}
+use Rattle.expr_lower.proofs.Apart.{IsApart}
 
 -- the words of these variables
 abbrev pub words_at : List ℕ → List ℕ → List ℕ

@@ -1,13 +1,22 @@
-use Rattle.std.proofs.Common.{ap, ◌∙◌}
+use Rattle.std.proofs.Common.{ap}
 use Rattle.list_denotation.specs.Copies.{term_of}
-use Rattle.loop_ir.specs.Statements.{join}
 use Rattle.loop_ir.specs.StatementCopies.{block_of}
 use Rattle.expr_lower.specs.Lowering.{lowered_into}
-use Rattle.expr_lower.proofs.Contract.{names}
+use Rattle.expr_lower.proofs.Contract.{all_appended, gives, names}
 use Rattle.expr_lower.proofs.statements.lower.Goals as goal
+
+pub returns-clause-gives : goal.returns-clause-gives
+returns-clause-gives c =
+    let slots = c.args.slots.now in
+    let block = block_of c.lower_into.new.block in
+    let lowered = lowered_into slots.rows (term_of c.args.e.now) c.args.target slots.first_temp in
+    gives slots.rows slots.first_temp slots.temps slots.next c.args.target (term_of c.args.e.now) block slots.laid_out c.in_ok-lower_into.ensures.words c.requires.bound c.requires.temporaries c.requires.target
+    (all_appended block (block_of c.new-block.result) lowered c.in_ok-lower_into.ensures.block (ap block_of c.new-block.ensures))
 
 pub returns-clause-names : goal.returns-clause-names
 returns-clause-names c =
-    names c.args.slots.now.rows c.args.slots.now.first_temp c.args.slots.now.temps c.args.target (term_of c.args.e.now) (block_of c.lower_into.new.block) c.requires.temporaries
-    (c.in_ok-lower_into.ensures.block
-    ∙ ap (λ b. join (block_of b) (lowered_into c.args.slots.now.rows (term_of c.args.e.now) c.args.target c.args.slots.now.first_temp)) c.new-block.ensures)
+    let slots = c.args.slots.now in
+    let block = block_of c.lower_into.new.block in
+    let lowered = lowered_into slots.rows (term_of c.args.e.now) c.args.target slots.first_temp in
+    names slots.rows slots.first_temp slots.temps c.args.target (term_of c.args.e.now) block c.requires.temporaries
+    (all_appended block (block_of c.new-block.result) lowered c.in_ok-lower_into.ensures.block (ap block_of c.new-block.ensures))
