@@ -1,5 +1,5 @@
 -- Counts of lists of places that are put together, and what they say of the lists.
-use Rattle.std.proofs.Common.{◌≡◌, ℕ, ◌+◌, ◌≤◌, zero, suc, List, [], ◌∷◌, ◌++◌, length, refl, sym, ap, arith}
+use Rattle.std.proofs.Common.{◌≡◌, ℕ, ◌≤◌, zero, suc, List, [], ◌∷◌, ◌++◌, length, refl, ap, arith}
 use Rattle.std.specs.Prelude.{Result, Ok, Err}
 use Rattle.pipe_grammar.specs.declared.reading.counts.Past.{Past}
 use Rattle.pipe_grammar.specs.Counting.{count_of}

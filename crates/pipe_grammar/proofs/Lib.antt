@@ -23,6 +23,7 @@ pub mod TextLaws
 pub mod OneOutcome
 pub mod OneAnswer
 pub mod WholeTexts
+pub mod SomeAnswer
 pub mod ParsedTexts
 pub mod PrintedTexts
 pub mod TreeTokens

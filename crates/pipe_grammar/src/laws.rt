@@ -1,7 +1,8 @@
 //! Laws of the definitions. These functions do nothing: their contracts are the laws.
 
-ghost use Rattle.std.specs.Prelude.{◌≡◌, ℕ, List};
+ghost use Rattle.std.specs.Prelude.{◌≡◌, ◌≢◌, ℕ, List, Err};
 ghost use Rattle.pipe_grammar.specs.Continuations.{texts, read_text};
+ghost use Rattle.pipe_grammar.specs.declared.fault.ParseFault.TheVariants.{NoMemory};
 ghost use Rattle.pipe_grammar.specs.Exactness.{IsExact};
 ghost use Rattle.pipe_grammar.specs.Grammar.{IsSentence};
 ghost use Rattle.pipe_grammar.specs.Parsing.{Answer, ParsesAs, IsSameUnlessRefused};
@@ -24,6 +25,12 @@ pub fn sentences_have_one_tree()
 /// Tokens have one answer, unless memory is refused.
 pub fn answers_are_one()
     ensures { (end : ℕ) (toks : List Tok) (a b : Answer) → ParsesAs end toks a → ParsesAs end toks b → IsSameUnlessRefused a b }
+{}
+
+/// Any tokens have a tree within the limits, or a fault that is no refusal of memory: together with the
+/// law before it, exactly one of these.
+pub fn tokens_have_an_answer()
+    ensures { (end : ℕ) (toks : List Tok) → (a : Answer) × (ParsesAs end toks a × (a ≢ Err NoMemory)) }
 {}
 
 /// The tokens of a sentence are, but for places, the tokens that `print_tree` writes of its tree.

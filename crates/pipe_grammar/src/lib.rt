@@ -17,6 +17,7 @@ mod tree;
 pub use fault::ParseFault;
 pub use laws::{
     answers_are_one, sentences_have_one_tree, sentences_have_tree_words, texts_are_read_exactly,
+    tokens_have_an_answer,
 };
 pub use printing::print_tree;
 pub use reading::parse;

@@ -7,5 +7,9 @@ pub mod KeywordTable
 pub mod OnePiece
 pub mod Passing
 pub mod OneAnswer
+pub mod LongestFronts
+pub mod WordKinds
+pub mod SomeFront
+pub mod SomeAnswer
 pub mod Places
 pub mod BeforeBlanks

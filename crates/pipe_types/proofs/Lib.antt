@@ -7,6 +7,7 @@ pub mod Parts
 pub mod Passing
 pub mod Patterns
 pub mod Places
+pub mod SomeAnswer
 pub mod TypedExpressions
 pub mod TypedRows
 pub mod TypedPatterns

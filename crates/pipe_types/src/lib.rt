@@ -11,14 +11,14 @@ mod checking;
 mod expressions;
 mod fault;
 mod foldings;
+mod laws;
 mod openings;
 mod rows;
 mod scopes;
 mod sources;
 mod stages;
 mod streams;
-#[cfg(test)]
-mod tests;
 
 pub use checking::check;
 pub use fault::TypeFault;
+pub use laws::trees_have_an_answer;

@@ -1,5 +1,5 @@
 -- Each list of bytes has a refusal or none: its tokens have an answer, then their tree, and then its kinds.
-use Rattle.std.proofs.Common.{◌≡◌, ℕ, List, length, Option, Some, None, Ok, Err, refl}
+use Rattle.std.proofs.Common.{◌≡◌, ◌≢◌, ℕ, List, length, Option, Some, None, Ok, Err, refl}
 use Rattle.list_denotation.specs.Terms.{Pipeline}
 use Rattle.pipe_lexer.specs.declared.token.Token.{Token}
 use Rattle.pipe_lexer.specs.declared.fault.LexFault.TheVariants as lex
@@ -8,7 +8,7 @@ use Rattle.pipe_lexer.specs.Lexing.{IsLexed, LexesAs}
 use Rattle.pipe_grammar.specs.declared.fault.ParseFault.TheVariants as parse
 use Rattle.pipe_grammar.specs.Parsing as parsing
 use Rattle.pipe_grammar.specs.Parsing.{ParsesAs}
-use Rattle.pipe_grammar.specs.Tokens.{toks_of}
+use Rattle.pipe_grammar.specs.Tokens.{Tok, toks_of}
 use Rattle.pipe_grammar.specs.Trees.{Text}
 use Rattle.pipe_types.specs.declared.fault.TypeFault.TheVariants as types
 use Rattle.pipe_types.specs.Checked.{Checked}
@@ -18,11 +18,18 @@ use Rattle.strymonas_run.specs.declared.refusal.RefusalKind.{RefusalKind}
 use Rattle.strymonas_run.specs.declared.refusal.RefusalKind.TheVariants.{NotUtf8, BadChar, NumberTooLarge, Syntax, TooDeep, TooManyInputs, TooManyOps, TooManyNodes, Unknown, Twice, Mismatch, WidthMismatch, TooWide, DivisionInOpening, NotArray}
 use Rattle.strymonas_run.specs.PipelineFile.{HasTree}
 use Rattle.strymonas_run.specs.Refusals.{IsRefusedAt, HasRefusal}
-use Rattle.strymonas_run.proofs.TotalLexing.{each_lexes}
-use Rattle.strymonas_run.proofs.TotalReading.{IsReader, each_parses}
-use Rattle.strymonas_run.proofs.TotalChecking.{never_refused}
 
-module _ (src : List ℕ) where
+-- what each step of reading is answered with
+abbrev pub EachLexes : Type 0
+EachLexes = (src : List ℕ) → (a : lexing.Answer) × (LexesAs src a × (a ≢ Err lex.NoMemory))
+
+abbrev pub EachParses : Type 0
+EachParses = (end : ℕ) (toks : List Tok) → (a : parsing.Answer) × (ParsesAs end toks a × (a ≢ Err parse.NoMemory))
+
+abbrev pub EachChecks : Type 0
+EachChecks = (t : Text) → check_of t ≢ Err types.NoMemory
+
+module _ (lexes : EachLexes) (parses : EachParses) (checks : EachChecks) (src : List ℕ) where
   abbrev SomeRefusal : Type 0
   SomeRefusal = (o : Option Refusal) × HasRefusal src o
 
@@ -31,7 +38,7 @@ module _ (src : List ℕ) where
 
   -- ---- a tree
 
-  by_kinds : (t : Text) → HasTree src t → (kinds : Checked Pipeline) → check_of t ≡ kinds → (kinds ≡ Err types.NoMemory → ⊥) → SomeRefusal
+  by_kinds : (t : Text) → HasTree src t → (kinds : Checked Pipeline) → check_of t ≡ kinds → kinds ≢ Err types.NoMemory → SomeRefusal
   by_kinds t text (Ok p) is some = (None, record { tree = t; pipeline = p; text = text; typed = is })
   by_kinds t text (Err (types.Unknown at)) is some = refused Unknown at (record { tree = t; text = text; checks = is })
   by_kinds t text (Err (types.Twice at)) is some = refused Twice at (record { tree = t; text = text; checks = is })
@@ -45,9 +52,9 @@ module _ (src : List ℕ) where
   -- ---- tokens
 
   module _ (toks : List Token) (lexed : IsLexed src toks) where
-    by_tree : (tree : parsing.Answer) → ParsesAs (length src) (toks_of src toks) tree → (tree ≡ Err parse.NoMemory → ⊥) → SomeRefusal
+    by_tree : (tree : parsing.Answer) → ParsesAs (length src) (toks_of src toks) tree → tree ≢ Err parse.NoMemory → SomeRefusal
     by_tree (Ok t) h some =
-        by_kinds t (record { toks = toks; lexed = lexed; sentence = h.0; bounded = h.1 }) (check_of t) refl (never_refused t)
+        by_kinds t (record { toks = toks; lexed = lexed; sentence = h.0; bounded = h.1 }) (check_of t) refl (checks t)
     by_tree (Err (parse.Syntax at)) h some = refused Syntax at (record { toks = toks; lexed = lexed; parses = h })
     by_tree (Err (parse.TooDeep at)) h some = refused TooDeep at (record { toks = toks; lexed = lexed; parses = h })
     by_tree (Err (parse.TooManyInputs at)) h some = refused TooManyInputs at (record { toks = toks; lexed = lexed; parses = h })
@@ -57,13 +64,13 @@ module _ (src : List ℕ) where
 
   -- ---- bytes
 
-  by_tokens : IsReader → (tokens : lexing.Answer) → LexesAs src tokens → (tokens ≡ Err lex.NoMemory → ⊥) → SomeRefusal
-  by_tokens exact (Ok toks) h some =
-      let tree = each_parses exact (length src) (toks_of src toks) in by_tree toks h tree.answer tree.parses tree.some
-  by_tokens exact (Err (lex.NotUtf8 at)) h some = refused NotUtf8 at h
-  by_tokens exact (Err (lex.BadChar at)) h some = refused BadChar at h
-  by_tokens exact (Err (lex.NumberTooLarge at)) h some = refused NumberTooLarge at h
-  by_tokens exact (Err lex.NoMemory) h some = absurd (some refl)
+  by_tokens : (tokens : lexing.Answer) → LexesAs src tokens → tokens ≢ Err lex.NoMemory → SomeRefusal
+  by_tokens (Ok toks) h some =
+      let tree = parses (length src) (toks_of src toks) in by_tree toks h tree.0 tree.1.0 tree.1.1
+  by_tokens (Err (lex.NotUtf8 at)) h some = refused NotUtf8 at h
+  by_tokens (Err (lex.BadChar at)) h some = refused BadChar at h
+  by_tokens (Err (lex.NumberTooLarge at)) h some = refused NumberTooLarge at h
+  by_tokens (Err lex.NoMemory) h some = absurd (some refl)
 
-  pub some_refusal : IsReader → SomeRefusal
-  some_refusal exact = let tokens = each_lexes src in by_tokens exact tokens.answer tokens.lexes tokens.some
+  pub some_refusal : SomeRefusal
+  some_refusal = let tokens = lexes src in by_tokens tokens.0 tokens.1.0 tokens.1.1

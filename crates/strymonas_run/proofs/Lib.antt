@@ -4,10 +4,4 @@ pub mod Readings
 pub mod OneReading
 pub mod Outputs
 pub mod Comings
-pub mod LongestFronts
-pub mod WordKinds
-pub mod FirstPieces
-pub mod TotalLexing
-pub mod TotalReading
-pub mod TotalChecking
 pub mod EachRefusal

@@ -3,7 +3,6 @@ use Rattle.std.proofs.Common.{◌≡◌, ℕ, List, length, Option, Some, None, 
 use Rattle.pipe_lexer.specs.declared.token.Token.{Token}
 use Rattle.pipe_lexer.specs.Lexing as lexing
 use Rattle.pipe_lexer.specs.Lexing.{IsLexed, LexesAs}
-use Rattle.pipe_lexer.proofs.OneAnswer.{one_answer}
 use Rattle.pipe_grammar.specs.Tokens.{Tok, toks_of}
 use Rattle.pipe_grammar.specs.Parsing as parsing
 use Rattle.pipe_grammar.specs.Parsing.{ParsesAs}
@@ -15,11 +14,14 @@ use Rattle.strymonas_run.specs.Refusals.{HasRefusal}
 use Rattle.strymonas_run.specs.Reading.{Reading}
 use Rattle.strymonas_run.proofs.Readings.{Says, OnlyTokens, GoesWithTokens, GoesWithTree, tokens_of, tree_of, only_fault, only_tree_fault, goes_with_kinds, same_kinds}
 
--- tokens have one answer
+-- bytes have one answer, and so have tokens
+abbrev OneLexing : Type 0
+OneLexing = (src : List ℕ) (a b : lexing.Answer) → LexesAs src a → LexesAs src b → lexing.IsSameUnlessRefused a b
+
 abbrev OneTree : Type 0
 OneTree = (end : ℕ) (toks : List Tok) (a b : parsing.Answer) → ParsesAs end toks a → ParsesAs end toks b → parsing.IsSameUnlessRefused a b
 
-module _ (one_tree : OneTree) (src : List ℕ) where
+module _ (one_lexing : OneLexing) (one_tree : OneTree) (src : List ℕ) where
   one_by_tree : (toks : List Token) (lexed : IsLexed src toks) (only : OnlyTokens src (Ok toks)) (a b : Reading) (answer : parsing.Answer) → ParsesAs (length src) (toks_of src toks) answer → GoesWithTree answer a → Says src b → a ≡ b
   one_by_tree toks lexed only a b (Ok t) parses goes k =
       same_kinds (check_of t) a b goes (goes_with_kinds src toks lexed only t (λ other h. one_tree (length src) (toks_of src toks) (Ok t) other parses h) b k)
@@ -28,9 +30,9 @@ module _ (one_tree : OneTree) (src : List ℕ) where
 
   one_by_tokens : (a b : Reading) (answer : lexing.Answer) → LexesAs src answer → GoesWithTokens answer a → Says src a → Says src b → a ≡ b
   one_by_tokens a b (Err e) lexes goes h k =
-      goes.2 ∙ sym (only_fault src e goes.0 (λ other l. one_answer src other (Err e) l lexes) goes.1 b k)
+      goes.2 ∙ sym (only_fault src e goes.0 (λ other l. one_lexing src other (Err e) l lexes) goes.1 b k)
   one_by_tokens a b (Ok toks) lexes goes h k =
-      let only : OnlyTokens src (Ok toks) = λ other l. one_answer src other (Ok toks) l lexes in
+      let only : OnlyTokens src (Ok toks) = λ other l. one_lexing src other (Ok toks) l lexes in
       let tree = tree_of src toks lexes only a h in
       one_by_tree toks lexes only a b tree.answer tree.parses tree.goes_with k
 

@@ -9,12 +9,15 @@ ghost use Rattle.strymonas_run.specs.PipelineFile.{IsPipelineFile};
 ghost use Rattle.strymonas_run.specs.Refusals.{HasRefusal};
 ghost use Rattle.strymonas_run.specs.declared.refusal.Refusal.{Refusal};
 
-use pipe_grammar::{answers_are_one, texts_are_read_exactly};
+use pipe_grammar::{answers_are_one, tokens_have_an_answer};
+use pipe_lexer::{texts_have_an_answer, texts_have_one_answer};
+use pipe_types::trees_have_an_answer;
 
 /// A file is one pipeline at most.
 pub fn files_are_one_pipeline()
     ensures { (src : List ℕ) (p q : Pipeline) → IsPipelineFile src p → IsPipelineFile src q → p ≡ q }
 {
+    texts_have_one_answer();
     answers_are_one();
 }
 
@@ -22,6 +25,7 @@ pub fn files_are_one_pipeline()
 pub fn files_have_one_refusal()
     ensures { (src : List ℕ) (a b : Option Refusal) → HasRefusal src a → HasRefusal src b → a ≡ b }
 {
+    texts_have_one_answer();
     answers_are_one();
 }
 
@@ -29,7 +33,9 @@ pub fn files_have_one_refusal()
 pub fn each_file_has_its_refusal()
     ensures { (src : List ℕ) → (o : Option Refusal) × HasRefusal src o }
 {
-    texts_are_read_exactly();
+    texts_have_an_answer();
+    tokens_have_an_answer();
+    trees_have_an_answer();
 }
 
 /// A file of at most 65,536 bytes has no refusal exactly where it is some pipeline.

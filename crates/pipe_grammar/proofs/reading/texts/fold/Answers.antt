@@ -1,4 +1,3 @@
-use Rattle.std.proofs.Common.{refl}
 use Rattle.pipe_grammar.specs.Continuations.{Continuation, FoldForm, terminal_form}
 use Rattle.pipe_grammar.specs.Foldings.{Folding, a_folding, folding_of}
 use Rattle.pipe_grammar.specs.Readers.{left_of}

@@ -1,16 +1,16 @@
 -- Each list of bytes has tokens, or a fault where it stops.
-use Rattle.std.proofs.Common.{◌≡◌, ℕ, zero, suc, ◌≤◌, List, [], ◌∷◌, length, take, drop, Result, Ok, Err, refl, sym, subst, arith, inl, inr}
+use Rattle.std.proofs.Common.{◌≡◌, ◌≢◌, ℕ, zero, suc, ◌≤◌, List, [], ◌∷◌, length, take, drop, Result, Ok, Err, refl, sym, subst, arith, inl, inr}
 use Rattle.std.proofs.lemmas.List.{length-drop, take-append-drop}
 use Rattle.std.specs.Str.{chars, IsUtf8, IsValidUpTo}
 use Rattle.pipe_lexer.specs.Pieces.{IsLargeNumber, IsBadChar}
 use Rattle.pipe_lexer.specs.Fronts.{HasFront}
-use Rattle.pipe_lexer.specs.Lexing.{Part, Passes, size_of_parts, tokens_from, Answer, LexesAs}
+use Rattle.pipe_lexer.specs.Lexing.{Part, Passes, size_of_parts, tokens_from, StopsAt, IsLexed, Answer, LexesAs}
 use Rattle.pipe_lexer.specs.declared.piece.Front.{Front}
 use Rattle.pipe_lexer.specs.declared.piece.Stop.{Stop}
 use Rattle.pipe_lexer.specs.declared.piece.Stop.TheVariants as stop
 use Rattle.pipe_lexer.specs.declared.fault.LexFault.TheVariants as fault
-use Rattle.strymonas_run.proofs.LongestFronts.{longest_front, text_or_not}
-use Rattle.strymonas_run.proofs.FirstPieces.{some_front}
+use Rattle.pipe_lexer.proofs.LongestFronts.{longest_front, text_or_not}
+use Rattle.pipe_lexer.proofs.SomeFront.{some_front}
 
 -- why the cutting goes no further than this rest
 data End : Type 0 where
@@ -63,35 +63,27 @@ cut_up (suc most) (c ∷ cs) within =
     by_front most (c ∷ cs) within (λ rest shorter. cut_up most rest shorter) front.0 front.1
 
 -- tokens, or a fault that is no refusal of memory
-pub record Lexes (src : List ℕ) : Type 0 where
-  pub answer : Answer
-  pub lexes : LexesAs src answer
-  pub some : answer ≡ Err fault.NoMemory → ⊥
+abbrev pub SomeAnswer : List ℕ → Type 0
+SomeAnswer src = (a : Answer) × (LexesAs src a × (a ≢ Err fault.NoMemory))
 
-by_end : (src : List ℕ) → IsUtf8 src → (parts : List Part) (rest : List ℕ) → Passes (chars src) parts rest → (end : End) → IsEnd end rest → Lexes src
-by_end src text parts rest passes AtEnd is = record {
-  answer = Ok (tokens_from 0 parts);
-  lexes = (text, record { parts = parts; passes = subst (Passes (chars src) parts) is passes; tokens = refl });
-  some = λ e. cc;
-}
-by_end src text parts rest passes AtBadChar is = record {
-  answer = Err (fault.BadChar (size_of_parts parts));
-  lexes = (text, record { parts = parts; rest = rest; passes = passes; place = refl; stops = is });
-  some = λ e. cc;
-}
-by_end src text parts rest passes AtLargeNumber is = record {
-  answer = Err (fault.NumberTooLarge (size_of_parts parts));
-  lexes = (text, record { parts = parts; rest = rest; passes = passes; place = refl; stops = is });
-  some = λ e. cc;
-}
+by_end : (src : List ℕ) → IsUtf8 src → (parts : List Part) (rest : List ℕ) → Passes (chars src) parts rest → (end : End) → IsEnd end rest → SomeAnswer src
+by_end src text parts rest passes AtEnd is =
+    let lexed : IsLexed src (tokens_from 0 parts) = (text, record { parts = parts; passes = subst (Passes (chars src) parts) is passes; tokens = refl }) in
+    (Ok (tokens_from 0 parts), (lexed, λ e. cc))
+by_end src text parts rest passes AtBadChar is =
+    let stops : StopsAt (chars src) (size_of_parts parts) IsBadChar = record { parts = parts; rest = rest; passes = passes; place = refl; stops = is } in
+    (Err (fault.BadChar (size_of_parts parts)), ((text, stops), λ e. cc))
+by_end src text parts rest passes AtLargeNumber is =
+    let stops : StopsAt (chars src) (size_of_parts parts) IsLargeNumber = record { parts = parts; rest = rest; passes = passes; place = refl; stops = is } in
+    (Err (fault.NumberTooLarge (size_of_parts parts)), ((text, stops), λ e. cc))
 
-text_lexes : (src : List ℕ) → IsUtf8 src → Lexes src
+text_lexes : (src : List ℕ) → IsUtf8 src → SomeAnswer src
 text_lexes src text =
     let cut = cut_up (length (chars src)) (chars src) (omega arith) in
     by_end src text cut.parts cut.rest cut.passes cut.end cut.is_end
 
-no_text_lexes : (src : List ℕ) → (at : ℕ) × IsValidUpTo src at → Lexes src
-no_text_lexes src front = record { answer = Err (fault.NotUtf8 front.0); lexes = front.1; some = λ e. cc }
+no_text_lexes : (src : List ℕ) → (at : ℕ) × IsValidUpTo src at → SomeAnswer src
+no_text_lexes src front = (Err (fault.NotUtf8 front.0), (front.1, λ e. cc))
 
-pub each_lexes : (src : List ℕ) → Lexes src
-each_lexes src = elim (text_or_not src) [ inl text ↦ text_lexes src text | inr no_text ↦ no_text_lexes src (longest_front src no_text) ]
+pub some_answer : (src : List ℕ) → SomeAnswer src
+some_answer src = elim (text_or_not src) [ inl text ↦ text_lexes src text | inr no_text ↦ no_text_lexes src (longest_front src no_text) ]

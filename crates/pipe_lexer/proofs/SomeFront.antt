@@ -15,7 +15,7 @@ use Rattle.pipe_lexer.specs.declared.piece.Stop.TheVariants as stop
 use Rattle.pipe_lexer.proofs.Runs.{begins_run, begins_run_within}
 use Rattle.pipe_lexer.proofs.SymbolFronts.{pair_stands, one_stands, no_symbol}
 use Rattle.pipe_lexer.proofs.Firsts.{blank_stands, number_stands, number_large, word_stands, bad_stands}
-use Rattle.strymonas_run.proofs.WordKinds.{word_kind}
+use Rattle.pipe_lexer.proofs.WordKinds.{word_kind}
 
 -- what stands at the front, or why no piece does
 abbrev SomeFront : List ℕ → Type 0

@@ -1,5 +1,5 @@
 -- Checking the kinds of a tree refuses no memory: each part stands for something, or has a fault.
-use Rattle.std.proofs.Common.{◌≡◌, ℕ, zero, suc, List, [], ◌∷◌, ◌++◌, Option, Some, None, Bool, true, false, Ok, Err, ap, if◌then◌else◌}
+use Rattle.std.proofs.Common.{◌≢◌, ℕ, zero, suc, List, [], ◌∷◌, ◌++◌, Option, Some, None, Bool, true, false, Ok, Err, ap, if◌then◌else◌}
 use Rattle.list_denotation.specs.declared.kind.Kind.{Kind}
 use Rattle.list_denotation.specs.declared.kind.Kind.TheVariants as kind
 use Rattle.list_denotation.specs.Terms.{Term, Pipe}
@@ -18,19 +18,19 @@ use Rattle.pipe_types.specs.Streams.{TypedStream, stream, names_of, folding_of, 
 
 -- a value, or a fault that is no refusal of memory
 record IsAnswered {A : Type 0} (part : Checked A) : Type 0 where
-  pub some : part ≡ Err fault.NoMemory → ⊥
+  pub some : part ≢ Err fault.NoMemory
 
 value : {A : Type 0} (a : A) → IsAnswered (Ok a)
 value a = record { some = λ e. cc }
 
-a_fault : {A : Type 0} (f : TypeFault) → (f ≡ fault.NoMemory → ⊥) → IsAnswered {A = A} (Err f)
+a_fault : {A : Type 0} (f : TypeFault) → f ≢ fault.NoMemory → IsAnswered {A = A} (Err f)
 a_fault f some = record { some = λ e. some cc }
 
 answered_after : {A B : Type 0} (part : Checked A) (next : A → Checked B) → IsAnswered part → ((a : A) → IsAnswered (next a)) → IsAnswered (after part next)
 answered_after (Ok a) next h k = k a
 answered_after (Err f) next h k = a_fault f (λ e. h.some (ap (λ (g : TypeFault). Err g) e))
 
-answered_unless : {A : Type 0} (holds : Bool) (f : TypeFault) (next : Checked A) → (f ≡ fault.NoMemory → ⊥) → IsAnswered next → IsAnswered (unless holds f next)
+answered_unless : {A : Type 0} (holds : Bool) (f : TypeFault) (next : Checked A) → f ≢ fault.NoMemory → IsAnswered next → IsAnswered (unless holds f next)
 answered_unless true f next h k = k
 answered_unless false f next h k = a_fault f h
 
@@ -196,5 +196,5 @@ answered t =
     answered_after _ _ (terminal_answered t.terminal (outermost t) s.kinds) (λ f.
     value (record { inputs = input_kinds t.inputs; stream = s.pipe; terminal = f }))))
 
-pub never_refused : (t : Text) → check_of t ≡ Err fault.NoMemory → ⊥
-never_refused t = (answered t).some
+pub some_answer : (t : Text) → check_of t ≢ Err fault.NoMemory
+some_answer t = (answered t).some

@@ -1,5 +1,5 @@
 -- A word is the keyword that is written so, or a name.
-use Rattle.std.proofs.Common.{◌≡◌, ◌≢◌, ◌⊎◌, ℕ, zero, suc, ◌<◌, ◌≤◌, List, [], ◌∷◌, length, get_or, sym, ap, ◌∙◌, arith, inl, inr, true≢false}
+use Rattle.std.proofs.Common.{◌≡◌, ◌≢◌, ◌⊎◌, ℕ, zero, suc, ◌<◌, ◌≤◌, List, length, get_or, sym, ap, ◌∙◌, arith, inl, inr, true≢false}
 use Rattle.std.specs.Str.{bytes_eq}
 use Rattle.std.proofs.lemmas.Bool.{cases_Bool, cases_lt}
 use Rattle.std.proofs.lemmas.List.{get_or_default}
@@ -7,7 +7,8 @@ use Rattle.std.proofs.lemmas.Slice.Eq.{bytes_eq-Decides}
 use Rattle.pipe_lexer.specs.Keywords.{keyword_text}
 use Rattle.pipe_lexer.specs.Fronts.{IsWordKind}
 use Rattle.pipe_lexer.specs.declared.keyword.Keyword.{Keyword}
-use Rattle.pipe_lexer.specs.declared.keyword.Keyword.TheVariants.{Input, Array, Int, Range, Unfold, With, While, Yield, Next, Zip, Map, Filter, Take, Drop, TakeWhile, Scan, FlatMap, Fold, Print, If, Then, Else, True, False, Len, Window, Pairwise, Index, Sum, Count, Least, Greatest}
+use Rattle.pipe_lexer.specs.declared.keyword.Keyword.TheVariants.{Input}
+use Rattle.pipe_lexer.specs.declared.keyword.TheConstants.{KEYWORDS}
 use Rattle.pipe_lexer.specs.declared.token.TokenKind.{TokenKind}
 use Rattle.pipe_lexer.specs.declared.token.TokenKind.TheVariants.{Name, Key}
 use Rattle.pipe_lexer.proofs.KeywordTable.{none_written}
@@ -45,13 +46,6 @@ module _ (word : List ℕ) (table : List Keyword) where
     | inl found ↦ (Key found.0, found.1)
     | inr none ↦ (Name, all none)
   ]
-
--- all keywords, in the order of the lexer's own table, which has no name outside the lexer
-abbrev KEYWORDS : List Keyword
-KEYWORDS =
-    Input ∷ Array ∷ Int ∷ Range ∷ Unfold ∷ With ∷ While ∷ Yield ∷ Next ∷ Zip ∷ Map ∷ Filter ∷ Take
-    ∷ Drop ∷ TakeWhile ∷ Scan ∷ FlatMap ∷ Fold ∷ Print ∷ If ∷ Then ∷ Else ∷ True ∷ False
-    ∷ Len ∷ Window ∷ Pairwise ∷ Index ∷ Sum ∷ Count ∷ Least ∷ Greatest ∷ []
 
 pub word_kind : (word : List ℕ) → (kind : TokenKind) × IsWordKind word kind
 word_kind word = kind_in word KEYWORDS (none_written word)
