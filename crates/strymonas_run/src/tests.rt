@@ -4,6 +4,8 @@ use std::test::Fail;
 use strm_io::{MemFiles, MemSink};
 use strm_num::NoMemory;
 
+mod kinds;
+
 const SQUARES: &str = "input a: array;\narray a | map x -> x * x + 1 | print";
 
 const PLAIN: &str = "input a: array;\narray a | print";
@@ -331,39 +333,6 @@ fn check_writes_the_kinds_and_counts(rt: HostRuntime) -> Result<(), Fail> {
         assert_eq!(rt; it.status, Status::Done, "{text}");
         assert_eq!(rt; it.out.bytes(), counts.as_bytes(), "{text}");
         assert!(rt; it.err.bytes().is_empty(), "{text}");
-    }
-    Ok(())
-}
-
-#[test]
-fn check_names_the_first_fault_of_kinds(rt: HostRuntime) -> Result<(), Fail> {
-    let cases = [
-        (
-            "input a: array;\narray a | map x -> x && true | print",
-            "Mismatch at 35",
-        ),
-        ("range(0, 10 / 2) | print", "DivisionInOpening at 12"),
-        (
-            "range(0, 1) | map x -> {x, x, x, x, x, x, x, x, x} | print",
-            "TooWide at 48",
-        ),
-        (
-            "range(0, 1) | map x -> {x, x, x, x, x, x, x, x} | print",
-            "",
-        ),
-        ("range(0, 3) | map x -> y | print", "Unknown at 23"),
-        ("range(0, 3) | map x -> x + | print", "Syntax at 27"),
-        (
-            "range(0, 9223372036854775808) | print",
-            "NumberTooLarge at 9",
-        ),
-        ("range(0, 3) | map x -> x / 2 | print", ""),
-    ];
-    for (text, reason) in cases {
-        assert!(rt;
-            is_checked(rt.alloc(), text.as_bytes(), reason)?,
-            "{text}: {reason}"
-        );
     }
     Ok(())
 }
