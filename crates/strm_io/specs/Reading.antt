@@ -27,16 +27,16 @@ OpeningHasCause misses misses' faults faults' Found = Unit {0}
 OpeningHasCause misses misses' faults faults' Missing = Rose misses misses'
 OpeningHasCause misses misses' faults faults' Failed = Rose faults faults'
 
--- these n bytes were the front of what was left, and are taken from it
-abbrev pub TakesFront : Option (List ℕ) → Option (List ℕ) → ℕ → List ℕ → Type 0
-TakesFront None left' n bytes = Unit {0}
-TakesFront (Some left) left' n bytes =
+-- these n bytes were a prefix of what was left, and are taken from it
+abbrev pub TakesPrefix : Option (List ℕ) → Option (List ℕ) → ℕ → List ℕ → Type 0
+TakesPrefix None left' n bytes = Unit {0}
+TakesPrefix (Some left) left' n bytes =
     (n ≤ length left) × (bytes ≡ take n left) × (left' ≡ Some (drop n left))
 
 -- what a piece brings into the buffer and leaves to be read
 abbrev pub BringsPiece : Option (List ℕ) → Option (List ℕ) → List ℕ → Piece → Type 0
 BringsPiece left left' buffer (Got n) =
-    (0 < n) × (n ≤ length buffer) × TakesFront left left' n (take n buffer)
+    (0 < n) × (n ≤ length buffer) × TakesPrefix left left' n (take n buffer)
 BringsPiece left left' buffer AtEnd = IsNothingLeft left × (left' ≡ left)
 BringsPiece left left' buffer Broken = IsNothingLeft left'
 

@@ -10,7 +10,7 @@ abbrev pub Appends : Option (List ℕ) → Option (List ℕ) → List ℕ → Ty
 Appends None written' bytes = Unit {0}
 Appends (Some written) written' bytes = written' ≡ Some (written ++ bytes)
 
--- a put takes a front of the piece, one byte at least where it has any, or leaves all as it was
+-- a put takes a prefix of the piece, one byte at least where it has any, or leaves all as it was
 abbrev pub PutsPiece : Option (List ℕ) → Option (List ℕ) → List ℕ → Put → Type 0
 PutsPiece written written' piece (Took n) =
     (n ≤ length piece) × (0 < length piece → 0 < n) × Appends written written' (take n piece)

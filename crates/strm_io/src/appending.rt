@@ -4,7 +4,7 @@ ghost use Rattle.strm_io.specs.Appending.{PutsAll, WriteHasCause};
 use crate::writing::{Put, Sink};
 
 /// A sink failed before the last byte was written.
-#[derive(Clone, Copy, Debug, PartialEq, Eq)]
+#[derive(Clone, Copy)]
 pub struct WriteFault;
 
 /// Writes all of `bytes`. It takes no memory.

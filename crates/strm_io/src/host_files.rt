@@ -62,7 +62,8 @@ impl Files for HostFiles {
     /// A file is missing where the system says that it isn't found. Each other error is a fault.
     fn open_file(&mut self, name: &str) -> Opened
         ensures opens { OpensFile None name.now None result }
-        ensures cause { OpeningHasCause self.old.misses self.new.misses self.old.faults self.new.faults result }
+        ensures cause { OpeningHasCause self.old.misses self.new.misses
+            self.old.faults self.new.faults result }
         ensures misses { self.old.misses ≤ self.new.misses }
         ensures faults { self.old.faults ≤ self.new.faults }
         ensures after { self.new ≡ after_opening self.old result }

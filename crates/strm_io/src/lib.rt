@@ -1,7 +1,7 @@
 //! The outside: files that are read and sinks that are written, as traits whose contracts say
 //! what each call gives and when it may fail.
 //!
-//! It stands on `strm_num`, for `NoMemory`. A device tells contracts its bytes, as those over
+//! It depends on `strm_num`, for `NoMemory`. A device tells contracts its bytes, as those over
 //! memory do, or doesn't, as those of the host don't. It counts its faults and, of files, its
 //! misses: the counts never fall, and a call answers a fault or a miss only where that count
 //! rose in the call, or stands at 2^64 - 1, the last value that it can have. Over every device,
@@ -16,8 +16,6 @@ mod loading;
 mod memory_files;
 mod memory_sink;
 mod reading;
-#[cfg(test)]
-mod tests;
 mod writing;
 
 pub use appending::{WriteFault, put_all};

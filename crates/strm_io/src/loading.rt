@@ -5,7 +5,7 @@ use crate::reading::{Files, Opened, Piece};
 use std::alloc::Global;
 
 /// Why a file wasn't loaded.
-#[derive(Clone, Copy, Debug, PartialEq, Eq)]
+#[derive(Clone, Copy)]
 pub enum LoadFault {
     /// There is no such file: it comes only where `misses` of the files rose in the call.
     Missing,

@@ -1,7 +1,8 @@
 ghost use Rattle.std.specs.Prelude.{◌≡◌, ◌≢◌, ◌<◌, ◌≤◌, [], OnOk, OnErr, IfSome, Some, length};
 ghost use Rattle.strm_io.specs.MemoryStates.{with_file};
 ghost use Rattle.strm_io.specs.MemoryFiles.{GivesMost, found_bytes, store_of};
-ghost use Rattle.strm_io.specs.Reading.{OpensFile, OpeningHasCause, BringsPiece, PieceHasCause, CountsOpening};
+ghost use Rattle.strm_io.specs.Reading.{BringsPiece, CountsOpening, OpeningHasCause, OpensFile};
+ghost use Rattle.strm_io.specs.Reading.{PieceHasCause};
 ghost use Rattle.strm_io.specs.Store.{held};
 
 use crate::MEMORY_STEP;
@@ -102,11 +103,13 @@ impl Files for MemFiles {
     /// It never fails, and counts each name that it doesn't hold. It takes no memory.
     fn open_file(&mut self, name: &str) -> Opened
         ensures opens { OpensFile (Some self.old.files) name.now (Some self.new.left) result }
-        ensures cause { OpeningHasCause self.old.misses self.new.misses self.old.faults self.new.faults result }
+        ensures cause { OpeningHasCause self.old.misses self.new.misses
+            self.old.faults self.new.faults result }
         ensures holds { self.new.files ≡ self.old.files }
         ensures misses { self.old.misses ≤ self.new.misses }
         ensures faults { self.new.faults ≡ self.old.faults }
-        ensures counts { CountsOpening self.old.misses self.new.misses self.old.faults self.new.faults result }
+        ensures counts { CountsOpening self.old.misses self.new.misses
+            self.old.faults self.new.faults result }
         ensures succeeds { result ≢ Opened.Failed }
     {
         let found = find(&self.entries, name);

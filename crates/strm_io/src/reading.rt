@@ -3,7 +3,7 @@ ghost use Rattle.strm_io.specs.Store.{Store};
 ghost use Rattle.strm_io.specs.Reading.{OpensFile, OpeningHasCause, BringsPiece, PieceHasCause};
 
 /// The answer of `Files::open_file`.
-#[derive(Clone, Copy, Debug, PartialEq, Eq)]
+#[derive(Clone, Copy)]
 pub enum Opened {
     /// The file is open, and is read from its first byte.
     Found,
@@ -14,9 +14,9 @@ pub enum Opened {
 }
 
 /// The answer of `Files::piece`.
-#[derive(Clone, Copy, Debug, PartialEq, Eq)]
+#[derive(Clone, Copy)]
 pub enum Piece {
-    /// So many bytes at the front of the buffer are the next of the file, at least one.
+    /// So many bytes at the start of the buffer are the next of the file, at least one.
     Got(u64),
     /// The file has no byte more, or no file is open.
     AtEnd,
@@ -24,7 +24,7 @@ pub enum Piece {
     Failed,
 }
 
-/// Files that are read one at a time, each from its front to its end.
+/// Files that are read one at a time, each from its start to its end.
 ///
 /// Contracts see what the store holds (`holds`) and what is still to be read of the open file
 /// (`left`), both where the device tells them, and two counts that never fall: of the calls
@@ -45,13 +45,13 @@ pub trait Files {
     /// only where the faults rose in this call.
     fn open_file(&mut self, name: &str) -> Opened
         ensures opens { OpensFile (holds self.old) name.now (left self.new) result }
-        ensures cause { OpeningHasCause (misses self.old) (misses self.new) (faults self.old) (faults self.new)
-            result }
+        ensures cause { OpeningHasCause (misses self.old) (misses self.new)
+            (faults self.old) (faults self.new) result }
         ensures holds { holds self.new ≡ holds self.old }
         ensures misses { misses self.old ≤ misses self.new }
         ensures faults { faults self.old ≤ faults self.new };
 
-    /// Takes the next bytes of the open file into the front of `buf`, which isn't empty.
+    /// Takes the next bytes of the open file into the start of `buf`, which isn't empty.
     ///
     /// `AtEnd` comes only where nothing is left to be read. `Failed` comes only where the faults
     /// rose in this call.

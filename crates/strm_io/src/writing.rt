@@ -2,9 +2,9 @@ ghost use Rattle.std.specs.Prelude.{ℕ, ◌≤◌, List, Option};
 ghost use Rattle.strm_io.specs.Writing.{PutsPiece, PutHasCause};
 
 /// The answer of `Sink::put`.
-#[derive(Clone, Copy, Debug, PartialEq, Eq)]
+#[derive(Clone, Copy)]
 pub enum Put {
-    /// So many bytes at the front of the piece were written: at least one, where it has any.
+    /// A prefix of so many bytes of the piece was written: at least one, where it has any.
     Took(u64),
     /// The device failed, and what was written is as before.
     Failed,
@@ -19,7 +19,7 @@ pub trait Sink {
 
     ghost faults: { Self → ℕ };
 
-    /// Writes a front of the piece. `Failed` comes only where the faults rose in this call.
+    /// Writes a prefix of the piece. `Failed` comes only where the faults rose in this call.
     fn put(&mut self, piece: &[u8]) -> Put
         ensures puts { PutsPiece (written self.old) (written self.new) piece.now result }
         ensures cause { PutHasCause (faults self.old) (faults self.new) result }

@@ -1,18 +1,19 @@
 //! Words, the refusal of memory, and the list that all named list types are.
 //!
-//! It stands on nothing but std. The crates above use four promises of it: a list is what its
+//! It depends on nothing but std. The crates above use four promises of it: a list is what its
 //! contracts say on every call, also after a refused `push`; `NoMemory` is the one error of a
 //! call that allocates; `specs/Words` is the arithmetic of words that definitions cite; and
 //! `div_signed`, `rem_signed` and `less_signed` give the quotient, the remainder and the order of
-//! signed values as `specs/Words` defines them, with none for a zero divisor alone.
+//! signed values as `specs/Words` defines them, with none for a zero divisor alone. The laws say of
+//! the definitions alone what signed division is of magnitudes, and signed order of flipped signs.
 #![tactic(auto)]
 
+mod laws;
 mod list;
 mod memory;
 mod signed_words;
-#[cfg(test)]
-mod tests;
 
+pub use laws::{signed_division_divides_magnitudes, signed_order_flips_sign_bits};
 pub use list::List;
 pub use memory::NoMemory;
 pub use signed_words::{SIGN, div_signed, is_negative, less_signed, magnitude, rem_signed};

@@ -2,7 +2,7 @@ use std::alloc::{AllocError, AllocFailed};
 
 /// Memory was refused. It is the only error of a call that fails for nothing else, and no
 /// contract says when it comes.
-#[derive(Clone, Copy, Debug, PartialEq, Eq)]
+#[derive(Clone, Copy, Debug)]
 pub struct NoMemory;
 
 impl From<AllocError> for NoMemory {
