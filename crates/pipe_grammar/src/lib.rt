@@ -1,27 +1,18 @@
-//! The grammar of the pipeline language: trees, their tokens and their text, and the reader of tokens.
+//! The reader of pipeline texts: their tree, or the first offset where they stop to be a sentence within
+//! the limits.
 //!
-//! It stands on pipe_lexer for the tokens, on strm_num for lists, on itoa for numbers and on thiserror.
-//! `specs/Grammar` says by cases, a line of the grammar each, which tokens a tree has, and `specs/Bounds`
-//! what is within the limits. `parse` carries the promise on tokens: it answers a tree exactly where the
-//! tokens are a sentence within the limits, and each fault exactly at its place. `print_tree` carries the
-//! promise on a tree's text. `specs/Machine` and `specs/Continuations` are the reader as a definition, a
-//! step over one token each; the laws say that it is exact, and the code follows it.
+//! `parse` carries the promise: a tree exactly where the tokens are a sentence within the limits, and
+//! each fault exactly at its offset. The code is recursive descent; each of its functions reads one
+//! production and says what pipe_reader's definition of the reader does from the tokens before to those
+//! behind it. It depends on pipe_rows for the parts of streams, on pipe_reader, on tree_counts for the
+//! counts, on pipe_tree for trees, on pipe_lexer for tokens and on pipe_limits.
 #![tactic(auto)]
 
-mod fault;
-mod laws;
-mod printing;
-mod reading;
-mod tree;
+mod declarations;
+mod parsing;
+mod sources;
+mod stages;
+mod streams;
+mod texts;
 
-pub use fault::ParseFault;
-pub use laws::{
-    answers_are_one, sentences_have_one_tree, sentences_have_tree_words, texts_are_read_exactly,
-    tokens_have_an_answer,
-};
-pub use printing::print_tree;
-pub use reading::parse;
-pub use tree::{
-    Decl, Decls, Name, Names, TExpr, TExprs, TNode, TPat, TRow, TSource, TStage, TStageNode,
-    TStages, TStream, TTerminal, Text, Tree,
-};
+pub use parsing::parse;

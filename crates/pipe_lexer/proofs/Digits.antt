@@ -3,7 +3,7 @@ use Rattle.std.proofs.Common.{◌≡◌, ℕ, ◌+◌, ◌-◌, ◌*◌, ◌^◌
 use Rattle.std.proofs.lemmas.List.{take_more}
 use Rattle.std.proofs.lemmas.Bool.Decides.{nat_tests}
 use Rattle.pipe_lexer.specs.Pieces.{value_with}
-use Rattle.pipe_lexer.specs.Fronts.{within_limit}
+use Rattle.pipe_lexer.specs.Prefixes.{within_limit}
 
 value_with-append : (v : ℕ) (xs : List ℕ) (c : ℕ) → value_with v (xs ++ c ∷ []) ≡ value_with v xs * 10 + (c - 48)
 value_with-append v [] c = refl

@@ -8,8 +8,8 @@ use Rattle.pipe_lexer.specs.declared.keyword.TheConstants.{KEYWORDS}
 
 -- the keyword in a list that is written so
 keyword_named : List Keyword → List ℕ → Option Keyword
-keyword_named [] word = None
-keyword_named (k ∷ ks) word = cond (bytes_eq (keyword_text k) word) (Some k) (keyword_named ks word)
+keyword_named [] identifier = None
+keyword_named (k ∷ ks) identifier = cond (bytes_eq (keyword_text k) identifier) (Some k) (keyword_named ks identifier)
 
 keyword_named-text : (k : Keyword) → keyword_named KEYWORDS (keyword_text k) ≡ Some k
 unfolding keyword_named
@@ -93,7 +93,7 @@ listed keyword.Least = record { at = 30; within = lit< tt; is = refl }
 listed keyword.Greatest = record { at = 31; within = lit< tt; is = refl }
 
 -- where none of the table is written so, no keyword is
-pub none_written : (word : List ℕ) → ((i : ℕ) (d : Keyword) → i < length KEYWORDS → keyword_text (get_or KEYWORDS i d) ≢ word) → (k : Keyword) → keyword_text k ≢ word
-none_written word none k e =
+pub none_written : (identifier : List ℕ) → ((i : ℕ) (d : Keyword) → i < length KEYWORDS → keyword_text (get_or KEYWORDS i d) ≢ identifier) → (k : Keyword) → keyword_text k ≢ identifier
+none_written identifier none k e =
     let l = listed k in
     none l.at k l.within (ap keyword_text l.is ∙ e)

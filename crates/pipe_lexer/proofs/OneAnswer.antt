@@ -41,15 +41,15 @@ same_lexed cs ts us f g =
     let same = same_parts cs f.parts g.parts [] [] f.passes g.passes nothing_is_end nothing_is_end in
     f.tokens ∙ ap (tokens_from 0) same.0 ∙ sym g.tokens
 
--- two places where characters stop
+-- two offsets where characters stop
 record IsOneStop (r s : List ℕ) (at to : ℕ) : Type 0 where
   pub rests : r ≡ s
-  pub places : at ≡ to
+  pub offsets : at ≡ to
 
 same_stop : (cs : List ℕ) (at to : ℕ) (P Q : List ℕ → Type 0) → ((r : List ℕ) → P r → IsEnd r) → ((r : List ℕ) → Q r → IsEnd r) → (f : StopsAt cs at P) (g : StopsAt cs to Q) → IsOneStop f.rest g.rest at to
 same_stop cs at to P Q end_p end_q f g =
     let same = same_parts cs f.parts g.parts f.rest g.rest f.passes g.passes (end_p f.rest f.stops) (end_q g.rest g.stops) in
-    record { rests = same.1; places = f.place ∙ ap size_of_parts same.0 ∙ sym g.place }
+    record { rests = same.1; offsets = f.offset ∙ ap size_of_parts same.0 ∙ sym g.offset }
 
 bad_end : (r : List ℕ) → IsBadChar r → IsEnd r
 bad_end r h = h.no_piece
@@ -98,13 +98,13 @@ one_answer src (Err (fault.NotUtf8 at)) (Err (fault.NumberTooLarge to)) f g = ab
 one_answer src (Err (fault.NotUtf8 at)) (Err fault.NoMemory) f g = tt
 one_answer src (Err (fault.BadChar at)) (Ok us) f g = absurd (no_stop (chars src) us at IsBadChar bad_end no_bad_nothing g.1 f.1)
 one_answer src (Err (fault.BadChar at)) (Err (fault.NotUtf8 to)) f g = absurd (not_text src to f.0 g)
-one_answer src (Err (fault.BadChar at)) (Err (fault.BadChar to)) f g = ap (λ (n : ℕ). Err (fault.BadChar n)) (same_stop (chars src) at to IsBadChar IsBadChar bad_end bad_end f.1 g.1).places
+one_answer src (Err (fault.BadChar at)) (Err (fault.BadChar to)) f g = ap (λ (n : ℕ). Err (fault.BadChar n)) (same_stop (chars src) at to IsBadChar IsBadChar bad_end bad_end f.1 g.1).offsets
 one_answer src (Err (fault.BadChar at)) (Err (fault.NumberTooLarge to)) f g = absurd (bad_or_large (chars src) at to f.1 g.1)
 one_answer src (Err (fault.BadChar at)) (Err fault.NoMemory) f g = tt
 one_answer src (Err (fault.NumberTooLarge at)) (Ok us) f g = absurd (no_stop (chars src) us at IsLargeNumber large_end no_large_nothing g.1 f.1)
 one_answer src (Err (fault.NumberTooLarge at)) (Err (fault.NotUtf8 to)) f g = absurd (not_text src to f.0 g)
 one_answer src (Err (fault.NumberTooLarge at)) (Err (fault.BadChar to)) f g = absurd (bad_or_large (chars src) to at g.1 f.1)
-one_answer src (Err (fault.NumberTooLarge at)) (Err (fault.NumberTooLarge to)) f g = ap (λ (n : ℕ). Err (fault.NumberTooLarge n)) (same_stop (chars src) at to IsLargeNumber IsLargeNumber large_end large_end f.1 g.1).places
+one_answer src (Err (fault.NumberTooLarge at)) (Err (fault.NumberTooLarge to)) f g = ap (λ (n : ℕ). Err (fault.NumberTooLarge n)) (same_stop (chars src) at to IsLargeNumber IsLargeNumber large_end large_end f.1 g.1).offsets
 one_answer src (Err (fault.NumberTooLarge at)) (Err fault.NoMemory) f g = tt
 one_answer src (Err fault.NoMemory) b f g = tt
 

@@ -1,4 +1,4 @@
--- Longest runs at the front of characters.
+-- Longest runs at the start of characters.
 use Rattle.std.proofs.Common.{◌≡◌, ℕ, ◌+◌, ◌-◌, ◌<◌, ◌≤◌, List, [], ◌∷◌, ◌++◌, length, get_or, take, drop, Bool, true, false, cond, refl, sym, ap, subst, ◌∙◌, arith}
 use Rattle.std.specs.List.{prefix_len}
 use Rattle.std.proofs.Math.Numerals.{one-add}
@@ -6,10 +6,10 @@ use Rattle.std.proofs.lemmas.List.{take_rest, length-drop}
 use Rattle.std.proofs.lemmas.List.Sums.{prefix_len-le-length}
 use Rattle.pipe_lexer.specs.Pieces.{IsRun, BeginsRun}
 
--- a front that passes stands there as a longest run
-run_at_front : (test : ℕ → Bool) (xs : List ℕ) → IsRun test (take (prefix_len test xs) xs) (drop (prefix_len test xs) xs)
-run_at_front test [] = tt
-run_at_front test (x ∷ xs) = by_test (test x) refl (run_at_front test xs)
+-- a prefix that passes stands there as a longest run
+run_at_prefix : (test : ℕ → Bool) (xs : List ℕ) → IsRun test (take (prefix_len test xs) xs) (drop (prefix_len test xs) xs)
+run_at_prefix test [] = tt
+run_at_prefix test (x ∷ xs) = by_test (test x) refl (run_at_prefix test xs)
   where
     by_test : (b : Bool) → test x ≡ b → IsRun test (take (prefix_len test xs) xs) (drop (prefix_len test xs) xs) → IsRun test (take (cond b (1 + prefix_len test xs) 0) (x ∷ xs)) (drop (cond b (1 + prefix_len test xs) 0) (x ∷ xs))
     by_test true e run =
@@ -22,7 +22,7 @@ begins_run begins continues [] n some b is = absurd (omega arith)
 begins_run begins continues (c ∷ cs) n some b is =
     let len : n ≡ prefix_len continues cs = is ∙ ap (prefix_len continues) (take_rest (c ∷ cs) 1) in
     subst (λ (k : ℕ). BeginsRun begins continues (take k (c ∷ cs)) (drop k (c ∷ cs))) (sym (one-add n))
-    (subst (λ (k : ℕ). BeginsRun begins continues (c ∷ take k cs) (drop k cs)) (sym len) (b, run_at_front continues cs))
+    (subst (λ (k : ℕ). BeginsRun begins continues (c ∷ take k cs) (drop k cs)) (sym len) (b, run_at_prefix continues cs))
 
 -- and it ends within the characters
 pub begins_run_within : (continues : ℕ → Bool) (cs : List ℕ) (n : ℕ) → 0 < length cs → n ≡ prefix_len continues (take (length cs - 1) (drop 1 cs)) → 1 + n ≤ length cs
@@ -32,29 +32,27 @@ begins_run_within continues cs n some is =
     let left = length-drop 1 cs in
     omega arith
 
--- two longest runs at one front are the same
+-- a test has one answer
+pub clash : (test : ℕ → Bool) (c d : ℕ) → c ≡ d → test c ≡ false → test d ≡ true → ⊥
+clash test c d same fails passes = cc
+
+same_cons : {c d : ℕ} {t u : List ℕ} → c ≡ d → t ≡ u → (c ∷ t) ≡ (d ∷ u)
+same_cons p q = cc
+
+-- two longest runs at one start are the same
 pub same_run : (test : ℕ → Bool) (t r u s : List ℕ) → t ++ r ≡ u ++ s → IsRun test t r → IsRun test u s → (t ≡ u) × (r ≡ s)
 same_run test [] r [] s e f g = (refl, e)
 same_run test [] [] (d ∷ u) s e f g = absurd cc
 same_run test [] (x ∷ r) (d ∷ u) s e f g =
-    let first : x ≡ d = cc in absurd (ends x d first f g.0)
-  where
-    ends : (x d : ℕ) → x ≡ d → test x ≡ false → test d ≡ true → ⊥
-    ends x d same fails passes = cc
+    let first : x ≡ d = cc in absurd (clash test x d first f g.0)
 same_run test (c ∷ t) r [] [] e f g = absurd cc
 same_run test (c ∷ t) r [] (x ∷ s) e f g =
-    let first : c ≡ x = cc in absurd (ends c x first f.0 g)
-  where
-    ends : (c x : ℕ) → c ≡ x → test c ≡ true → test x ≡ false → ⊥
-    ends c x same passes fails = cc
+    let first : c ≡ x = cc in absurd (clash test x c (sym first) g f.0)
 same_run test (c ∷ t) r (d ∷ u) s e f g =
     let first : c ≡ d = cc in
     let tail : t ++ r ≡ u ++ s = cc in
     let same = same_run test t r u s tail f.1 g.1 in
-    (ap2 first same.0, same.1)
-  where
-    ap2 : c ≡ d → t ≡ u → (c ∷ t) ≡ (d ∷ u)
-    ap2 p q = cc
+    (same_cons first same.0, same.1)
 
 pub same_begins_run : (begins continues : ℕ → Bool) (t r u s : List ℕ) → t ++ r ≡ u ++ s → BeginsRun begins continues t r → BeginsRun begins continues u s → (t ≡ u) × (r ≡ s)
 same_begins_run begins continues [] r u s e f g = absurd f
@@ -63,7 +61,4 @@ same_begins_run begins continues (c ∷ t) r (d ∷ u) s e f g =
     let first : c ≡ d = cc in
     let tail : t ++ r ≡ u ++ s = cc in
     let same = same_run continues t r u s tail f.1 g.1 in
-    (ap2 first same.0, same.1)
-  where
-    ap2 : c ≡ d → t ≡ u → (c ∷ t) ≡ (d ∷ u)
-    ap2 p q = cc
+    (same_cons first same.0, same.1)

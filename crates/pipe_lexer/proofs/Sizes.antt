@@ -16,9 +16,9 @@ pub size_of-take_more : (xs : List ℕ) (i d : ℕ) → i < length xs → size_o
 size_of-take_more xs i d within =
     ap size_of (take_more xs i d within) ∙ size_of-append (take i xs) (get_or xs i d ∷ []) ∙ ap (λ (n : ℕ). size_of (take i xs) + n) (size_of_one (get_or xs i d))
 
--- a front and what follows it
-pub size_of_front : (i : ℕ) (xs : List ℕ) → size_of (take i xs) + size_of (drop i xs) ≡ size_of xs
-size_of_front i xs = sym (size_of-append (take i xs) (drop i xs)) ∙ ap size_of (take-append-drop i xs)
+-- a prefix and what follows it
+pub size_of_prefix : (i : ℕ) (xs : List ℕ) → size_of (take i xs) + size_of (drop i xs) ≡ size_of xs
+size_of_prefix i xs = sym (size_of-append (take i xs) (drop i xs)) ∙ ap size_of (take-append-drop i xs)
 
 -- characters have a byte or more each
 pub length-le-size_of : (xs : List ℕ) → length xs ≤ size_of xs

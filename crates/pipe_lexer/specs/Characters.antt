@@ -19,12 +19,12 @@ abbrev pub is_digit : ℕ → Bool
 is_digit c = nat_le 48 c && nat_le c 57
 
 -- an identifier's first character, or _
-abbrev pub begins_word : ℕ → Bool
-begins_word c = is_xid_start c || (c == 95)
+abbrev pub begins_identifier : ℕ → Bool
+begins_identifier c = is_xid_start c || (c == 95)
 
 -- a character of an identifier behind its first
-abbrev pub continues_word : ℕ → Bool
-continues_word c = is_xid_continue c
+abbrev pub continues_identifier : ℕ → Bool
+continues_identifier c = is_xid_continue c
 
 -- how many bytes the characters have as UTF-8
 abbrev pub size_of : List ℕ → ℕ

@@ -1,4 +1,4 @@
--- The tokens of a text, or where it stops: the text is gone through piece by piece.
+-- The tokens of a text, each with its offset, or the fault where it stops: the text is cut piece by piece.
 use Rattle.std.specs.Prelude.{◌≡◌, ℕ, ◌+◌, ◌<◌, ◌≤◌, List, [], ◌∷◌, ◌++◌, drop, Result, Ok, Err, slice_range, encode_utf8_all}
 use Rattle.std.specs.Str.{chars, IsUtf8, IsValidUpTo}
 use Rattle.pipe_lexer.specs.Characters.{size_of}
@@ -31,13 +31,13 @@ abbrev pub size_of_parts : List Part → ℕ
 size_of_parts [] = 0
 size_of_parts (p ∷ ps) = size_of p.text + size_of_parts ps
 
--- a piece that is a token, with its places; none for a blank or a comment
+-- a piece that is a token, with its offsets; none for a blank or a comment
 abbrev pub token_of : Piece → ℕ → ℕ → List Token
 token_of piece.Blank at end = []
 token_of piece.Comment at end = []
 token_of (piece.Token kind) at end = record { kind = kind; at = at; end = end } ∷ []
 
--- the tokens among the parts that stand from a place on
+-- the tokens among the parts that stand from an offset on
 abbrev pub tokens_from : ℕ → List Part → List Token
 tokens_from at [] = []
 tokens_from at (p ∷ ps) = token_of p.piece at (at + size_of p.text) ++ tokens_from (at + size_of p.text) ps
@@ -48,12 +48,12 @@ pub record AreTokensOf (cs : List ℕ) (toks : List Token) : Type 0 where
   pub passes : Passes cs parts []
   pub tokens : toks ≡ tokens_from 0 parts
 
--- behind parts, at this place, something holds of the rest
+-- behind parts, at this offset, something holds of the rest
 pub record StopsAt (cs : List ℕ) (at : ℕ) (holds : List ℕ → Type 0) : Type 0 where
   pub parts : List Part
   pub rest : List ℕ
   pub passes : Passes cs parts rest
-  pub place : at ≡ size_of_parts parts
+  pub offset : at ≡ size_of_parts parts
   pub stops : holds rest
 
 -- the bytes are a text, and these are its tokens
@@ -64,7 +64,7 @@ IsLexed src toks = IsUtf8 src × AreTokensOf (chars src) toks
 abbrev pub Answer : Type 0
 Answer = Result (List Token) LexFault
 
--- what the text is answered with: its tokens, or the fault at the place where it stops
+-- what the text is answered with: its tokens, or the fault at the offset where it stops
 abbrev pub LexesAs : List ℕ → Answer → Type 0
 LexesAs src (Ok toks) = IsLexed src toks
 LexesAs src (Err (fault.NotUtf8 at)) = IsValidUpTo src at
@@ -78,7 +78,7 @@ IsSameUnlessRefused (Err fault.NoMemory) other = Unit {0}
 IsSameUnlessRefused answer (Err fault.NoMemory) = Unit {0}
 IsSameUnlessRefused answer other = answer ≡ other
 
--- the token's text is the bytes from its place to its end, and it is the token there before what follows
+-- the token's text is the bytes from its offset to its end, and it is the token there before what follows
 pub record HasText (src : List ℕ) (t : Token) : Type 0 where
   pub text : List ℕ
   pub rest : List ℕ
@@ -86,7 +86,7 @@ pub record HasText (src : List ℕ) (t : Token) : Type 0 where
   pub behind : drop t.end src ≡ encode_utf8_all rest
   pub token : IsToken t.kind text rest
 
--- the tokens stand one behind another from a place to an end, each with one byte or more
+-- the tokens stand one behind another from an offset to an end, each with one byte or more
 abbrev pub AreInOrder : ℕ → List Token → ℕ → Type 0
 AreInOrder from [] end = from ≤ end
 AreInOrder from (t ∷ ts) end = (from ≤ t.at) × (t.at < t.end) × AreInOrder t.end ts end

@@ -2,6 +2,6 @@ pub mod Characters
 pub mod Keywords
 pub mod Symbols
 pub mod Pieces
-pub mod Fronts
+pub mod Prefixes
 pub mod Lexing
 pub mod Steps

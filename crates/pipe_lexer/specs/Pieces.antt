@@ -1,6 +1,6 @@
 -- What a text is cut into: a blank, a comment or a token, each as long as it can be.
 use Rattle.std.specs.Prelude.{◌≡◌, ◌≢◌, ℕ, ◌+◌, ◌-◌, ◌*◌, ◌^◌, ◌<◌, ◌≤◌, List, [], ◌∷◌, ◌++◌, length, Bool, true, false}
-use Rattle.pipe_lexer.specs.Characters.{is_blank, begins_comment, continues_comment, is_digit, begins_word, continues_word}
+use Rattle.pipe_lexer.specs.Characters.{is_blank, begins_comment, continues_comment, is_digit, begins_identifier, continues_identifier}
 use Rattle.pipe_lexer.specs.Keywords.{keyword_text}
 use Rattle.pipe_lexer.specs.Symbols.{symbol_text}
 use Rattle.pipe_lexer.specs.declared.keyword.Keyword.{Keyword}
@@ -22,8 +22,8 @@ BeginsRun begins continues [] rest = ⊥
 BeginsRun begins continues (c ∷ text) rest = (begins c ≡ true) × IsRun continues text rest
 
 -- a keyword or a name, as long as it goes on
-abbrev pub IsWord : List ℕ → List ℕ → Type 0
-IsWord = BeginsRun begins_word continues_word
+abbrev pub IsIdentifier : List ℕ → List ℕ → Type 0
+IsIdentifier = BeginsRun begins_identifier continues_identifier
 
 -- a longest run of one digit or more
 abbrev pub IsDigits : List ℕ → List ℕ → Type 0
@@ -40,9 +40,9 @@ IsLongest text rest = (s : Symbol) (behind : List ℕ) → text ++ rest ≡ symb
 
 -- the text is this token, with that rest behind it
 abbrev pub IsToken : TokenKind → List ℕ → List ℕ → Type 0
-IsToken Name text rest = IsWord text rest × ((k : Keyword) → keyword_text k ≢ text)
+IsToken Name text rest = IsIdentifier text rest × ((k : Keyword) → keyword_text k ≢ text)
 IsToken (Number n) text rest = IsDigits text rest × (value_with 0 text ≡ n) × (n < 2 ^ 63)
-IsToken (Key k) text rest = IsWord text rest × (keyword_text k ≡ text)
+IsToken (Key k) text rest = IsIdentifier text rest × (keyword_text k ≡ text)
 IsToken (Sym s) text rest = (symbol_text s ≡ text) × IsLongest text rest
 
 -- the text is this piece, with that rest behind it
@@ -51,7 +51,7 @@ IsPiece piece.Blank text rest = (c : ℕ) × (text ≡ c ∷ []) × (is_blank c 
 IsPiece piece.Comment text rest = BeginsRun begins_comment continues_comment text rest
 IsPiece (piece.Token kind) text rest = IsToken kind text rest
 
--- at the front stands a number that is too large
+-- at the start stands a number that is too large
 pub record IsLargeNumber (cs : List ℕ) : Type 0 where
   pub text : List ℕ
   pub rest : List ℕ
@@ -59,7 +59,7 @@ pub record IsLargeNumber (cs : List ℕ) : Type 0 where
   pub digits : IsDigits text rest
   pub large : 2 ^ 63 ≤ value_with 0 text
 
--- something stands at the front, and it begins no piece and no number
+-- something stands at the start, and it begins no piece and no number
 pub record IsBadChar (cs : List ℕ) : Type 0 where
   pub some : cs ≢ []
   pub no_piece : (p : Piece) (text rest : List ℕ) → cs ≡ text ++ rest → IsPiece p text rest → ⊥

@@ -1,4 +1,4 @@
--- What the steps of the reading give: the characters of bytes, and what characters are cut into.
+-- What the steps of `tokens` give: the characters of bytes, and the tokens that characters are cut into.
 use Rattle.std.specs.Prelude.{◌≡◌, ℕ, List, Result, Ok, Err}
 use Rattle.std.specs.Global.{Vec}
 use Rattle.std.specs.Str.{chars, IsUtf8, IsValidUpTo}
@@ -25,7 +25,7 @@ IsCut cs (Err (fault.BadChar at)) = StopsAt cs at IsBadChar
 IsCut cs (Err (fault.NumberTooLarge at)) = StopsAt cs at IsLargeNumber
 IsCut cs (Err fault.NoMemory) = Unit {0}
 
--- the fault at a place where characters stop
+-- the fault at an offset where characters stop
 abbrev pub fault_of : Stop → ℕ → LexFault
 fault_of stop.BadChar at = fault.BadChar at
 fault_of stop.NumberTooLarge at = fault.NumberTooLarge at

@@ -2,8 +2,8 @@ ghost use Rattle.std.specs.Prelude.{◌≡◌, ◌≢◌, ◌↔◌, length, IsT
 ghost use Rattle.pipe_lexer.specs.Keywords.{keyword_text};
 ghost use Rattle.pipe_lexer.specs.declared.keyword.Keyword.{Keyword};
 
-/// The keywords and the reserved words, each named as it is written.
-#[derive(Clone, Copy, Debug, PartialEq, Eq)]
+/// The keywords, the reserved ones too, each named as it is written.
+#[derive(Clone, Copy, Debug)]
 pub enum Keyword {
     Input,
     Array,
@@ -132,11 +132,12 @@ fn is_written(chars: &[char], text: &str) -> bool
 }
 
 /// The keyword that is written so, or none.
-pub fn keyword_of(word: &[char]) -> Option<Keyword>
-    ensures { MatchOption result ((k : Keyword) → keyword_text k ≢ word.now) (λ k. keyword_text k ≡ word.now) }
+pub fn keyword_of(identifier: &[char]) -> Option<Keyword>
+    ensures { MatchOption result ((k : Keyword) → keyword_text k ≢ identifier.now)
+        (λ k. keyword_text k ≡ identifier.now) }
 {
     for keyword in KEYWORDS {
-        if is_written(word, spelling(keyword)) {
+        if is_written(identifier, spelling(keyword)) {
             return Some(keyword);
         }
     }

@@ -1,5 +1,5 @@
 /// The operators with two operands, but for `&&` and `||`.
-#[derive(Clone, Copy, Debug, PartialEq, Eq)]
+#[derive(Clone, Copy)]
 pub enum BinOp {
     Add,
     Sub,
@@ -15,7 +15,7 @@ pub enum BinOp {
 }
 
 /// The kinds of an input: an array of words, or one signed word.
-#[derive(Clone, Copy, Debug, PartialEq, Eq)]
+#[derive(Clone, Copy)]
 pub enum InputKind {
     Array,
     Int,

@@ -8,14 +8,14 @@ pub enum Piece {
     Token(TokenKind),
 }
 
-/// The piece at the front of a text and how many characters it has.
+/// The piece at the start of a text and how many characters it has.
 #[derive(Clone, Copy)]
-pub struct Front {
+pub struct Prefix {
     pub piece: Piece,
     pub len: usize,
 }
 
-/// Why no piece stands at the front of a text: its first character begins none, or a number is
+/// Why no piece stands at the start of a text: its first character begins none, or a number is
 /// there that is too large.
 #[derive(Clone, Copy)]
 pub enum Stop {

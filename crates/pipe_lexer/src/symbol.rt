@@ -2,7 +2,7 @@ ghost use Rattle.std.specs.Prelude.{◌≡◌};
 ghost use Rattle.pipe_lexer.specs.Symbols.{symbol_of_one, symbol_of_two};
 
 /// The symbols, each named by its characters.
-#[derive(Clone, Copy, Debug, PartialEq, Eq)]
+#[derive(Clone, Copy, Debug)]
 pub enum Symbol {
     /// `|`
     Bar,

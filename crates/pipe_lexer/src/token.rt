@@ -3,7 +3,7 @@ use crate::symbol::Symbol;
 use strm_num::Word;
 
 /// What a token is: a name, a number by its value, at most 2^63 - 1, a keyword or a symbol.
-#[derive(Clone, Copy, Debug, PartialEq, Eq)]
+#[derive(Clone, Copy, Debug)]
 pub enum TokenKind {
     Name,
     Number(Word),
@@ -11,9 +11,9 @@ pub enum TokenKind {
     Sym(Symbol),
 }
 
-/// A token and its place: its text is the bytes of the source from `at` to before `end`, both
+/// A token and its offset: its text is the bytes of the source from `at` to before `end`, both
 /// counted in bytes from 0.
-#[derive(Clone, Copy, Debug, PartialEq, Eq)]
+#[derive(Clone, Copy)]
 pub struct Token {
     pub kind: TokenKind,
     pub at: u32,

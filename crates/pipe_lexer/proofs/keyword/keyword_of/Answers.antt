@@ -11,14 +11,14 @@ loop-keyword-preserved c =
     let at = c.loop-keyword.keyword-index in
     let within : at < length KEYWORDS = c.loop-keyword-test.true in
     let is : c.spelling.result.now ≡ keyword_text (get_or KEYWORDS at _) = c.spelling.ensures in
-    let here : (d : Keyword) → keyword_text (get_or KEYWORDS at d) ≢ c.args.word.now =
+    let here : (d : Keyword) → keyword_text (get_or KEYWORDS at d) ≢ c.args.identifier.now =
     λ d same.
     let written = c.is_written.ensures.1 (sym same ∙ ap keyword_text (get_or_default KEYWORDS at d _ within) ∙ sym is) in
     let not_written = c.if-is_written.false in
     absurd cc
     in
-    let all = below_more (λ (i : ℕ). (d : Keyword) → keyword_text (get_or KEYWORDS i d) ≢ c.args.word.now) at (λ i below d. c.loop-keyword.invariant i d below) here in
+    let all = below_more (λ (i : ℕ). (d : Keyword) → keyword_text (get_or KEYWORDS i d) ≢ c.args.identifier.now) at (λ i below d. c.loop-keyword.invariant i d below) here in
     λ i d below. all i below d
 
 pub returns : goal.returns
-returns c = none_written c.args.word.now (λ i d within. c.loop-keyword.invariant i d (let done = c.loop-keyword-test.false in omega arith))
+returns c = none_written c.args.identifier.now (λ i d within. c.loop-keyword.invariant i d (let done = c.loop-keyword-test.false in omega arith))

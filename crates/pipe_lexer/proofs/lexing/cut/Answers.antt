@@ -6,7 +6,7 @@ pub size-requires : goal.size-requires
 size-requires c =
     let chars = c.args.chars.now in
     let from = c.loop-from.from in
-    let piece = piece_size chars from c.in-Ok.front.len in
+    let piece = piece_size chars from c.in-Ok.prefix.len in
     let whole = passed_size chars from c.loop-from.at c.loop-from.found c.loop-from.invariant.passed in
     let bound = c.requires in
     omega arith
@@ -15,7 +15,7 @@ pub overflow_add-end : goal.overflow_add-end
 overflow_add-end c =
     let chars = c.args.chars.now in
     let from = c.loop-from.from in
-    let piece = piece_size chars from c.in-Ok.front.len in
+    let piece = piece_size chars from c.in-Ok.prefix.len in
     let whole = passed_size chars from c.loop-from.at c.loop-from.found c.loop-from.invariant.passed in
     let bound = c.requires in
     let size = c.size.ensures in
@@ -26,8 +26,8 @@ pub loop-from-preserved : goal.loop-from-preserved
 loop-from-preserved c =
     let chars = c.args.chars.now in
     let from = c.loop-from.from in
-    let front = stands_in_rest chars from c.in-Ok.front.piece c.in-Ok.front.len c.in-Ok.ensures in
+    let prefix = stands_in_rest chars from c.in-Ok.prefix.piece c.in-Ok.prefix.len c.in-Ok.ensures in
     record {
-      within = piece_within chars from c.in-Ok.front.piece c.in-Ok.front.len c.loop-from.invariant.within front;
-      passed = passed_more chars from c.loop-from.at c.loop-from.found c.in-Ok.front.piece c.in-Ok.front.len _ _ c.loop-from.invariant.passed front (ap (λ (n : ℕ). c.loop-from.at + n) c.size.ensures) c.in_ok-push_token-in-Ok.ensures.ok;
+      within = piece_within chars from c.in-Ok.prefix.piece c.in-Ok.prefix.len c.loop-from.invariant.within prefix;
+      passed = passed_more chars from c.loop-from.at c.loop-from.found c.in-Ok.prefix.piece c.in-Ok.prefix.len _ _ c.loop-from.invariant.passed prefix (ap (λ (n : ℕ). c.loop-from.at + n) c.size.ensures) c.in_ok-push_token-in-Ok.ensures.ok;
     }

@@ -1,7 +1,7 @@
 use Rattle.std.proofs.Common.{ap, arith, rules}
 use Rattle.pipe_lexer.specs.Characters.{size_of}
 use Rattle.pipe_lexer.proofs.OneAnswer.{one_answer, size_of-chars}
-use Rattle.pipe_lexer.proofs.Places.{answer_texts, answer_in_order}
+use Rattle.pipe_lexer.proofs.Offsets.{answer_texts, answer_in_order}
 use Rattle.pipe_lexer.proofs.lexing.tokens.Goals as goal
 
 pub returns-in_err-chars-clause-only : goal.returns-in_err-chars-clause-only

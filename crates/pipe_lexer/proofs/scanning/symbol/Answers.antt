@@ -1,8 +1,8 @@
 use Rattle.std.proofs.Common.{◌≡◌, None, sym, ap, ◌∙◌, rules}
 use Rattle.pipe_lexer.specs.Symbols.{symbol_of_one}
-use Rattle.pipe_lexer.specs.Fronts.{symbol_pair}
+use Rattle.pipe_lexer.specs.Prefixes.{symbol_pair}
 use Rattle.pipe_lexer.proofs.Firsts.{first_of}
-use Rattle.pipe_lexer.proofs.SymbolFronts.{pair_stands, one_stands}
+use Rattle.pipe_lexer.proofs.SymbolPrefixes.{pair_stands, one_stands}
 use Rattle.pipe_lexer.proofs.scanning.symbol.Goals as goal
 
 pub returns-in-Some : goal.returns-in-Some

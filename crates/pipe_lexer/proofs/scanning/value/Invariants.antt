@@ -1,6 +1,6 @@
 use Rattle.std.proofs.Common.{◌≡◌, take}
 use Rattle.pipe_lexer.specs.Pieces.{value_with}
-use Rattle.pipe_lexer.specs.Fronts.{within_limit}
+use Rattle.pipe_lexer.specs.Prefixes.{within_limit}
 use Rattle.pipe_lexer.proofs.scanning.value.Given as goal
 
 abbrev pub invariant-loop-c : goal.invariant-loop-c

@@ -1,5 +1,0 @@
-use Rattle.pipe_grammar.proofs.WholeTexts.{texts_are_read_exactly}
-use Rattle.pipe_grammar.proofs.laws.texts_are_read_exactly.Goals as goal
-
-pub returns : goal.returns
-returns c = texts_are_read_exactly

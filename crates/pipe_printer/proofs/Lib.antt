@@ -1,0 +1,10 @@
+pub mod BeforeBlanks
+pub mod PrintedTexts
+pub mod TreeTokens
+pub mod SpacedTokens
+pub mod LexedSpellings
+pub mod OtherOffsets
+pub mod OtherStreams
+pub mod TokensWithoutOffsets
+pub mod BoundsWithoutOffsets
+pub mod ReadBack

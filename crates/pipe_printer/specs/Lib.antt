@@ -1,0 +1,4 @@
+pub mod Printing
+pub mod TreeTokens
+pub mod Spellings
+pub mod WithoutOffsets

@@ -1,0 +1,5 @@
+pub mod InfixOps
+pub mod Machine
+pub mod Depths
+pub mod Continuations
+pub mod Nesting

@@ -1,0 +1,3 @@
+pub mod ExpressionSteps
+pub mod FirstTokens
+pub mod FormReading

@@ -1,0 +1,4 @@
+pub mod FormReading
+pub mod TokenClassCopies
+pub mod ReaderState
+pub mod Foldings
