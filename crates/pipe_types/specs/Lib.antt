@@ -1,8 +1,3 @@
-pub mod Checked
-pub mod Scopes
-pub mod Expressions
-pub mod Rows
-pub mod Streams
-pub mod Checking
-pub mod Insides
 pub mod Copies
+pub mod Room
+pub mod StageForms

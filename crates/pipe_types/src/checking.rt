@@ -2,19 +2,19 @@
 
 ghost use Rattle.std.specs.Prelude.{◌≡◌, [], map, Ok, IfOk};
 ghost use Rattle.list_denotation.specs.Pipelines.{pipeline_of};
-ghost use Rattle.pipe_grammar.specs.Bounds.{IsBounded};
-ghost use Rattle.pipe_grammar.specs.TreeCopies.{declaration_of, text_of};
-ghost use Rattle.pipe_types.specs.Checked.{IsOneUnlessRefused};
-ghost use Rattle.pipe_types.specs.Checking.{check_of, declared_names, input_kind, input_kinds};
-ghost use Rattle.pipe_types.specs.Copies.{inputs_of};
-ghost use Rattle.pipe_types.specs.Scopes.{distinct};
-ghost use Rattle.pipe_types.specs.Streams.{names_of};
+ghost use Rattle.pipe_tree.specs.Bounds.{IsBounded};
+ghost use Rattle.pipe_tree.specs.TreeCopies.{declaration_of, text_of};
+ghost use Rattle.kind_rules.specs.Checked.{IsOneUnlessRefused};
+ghost use Rattle.kind_rules.specs.Checking.{check_of};
+ghost use Rattle.kind_rules.specs.Inputs.{declared_names, input_kind, input_kinds};
+ghost use Rattle.kind_rules.specs.Scopes.{distinct_names, names_of};
+ghost use Rattle.pipe_kinds.specs.Copies.{inputs_of};
 
-use crate::fault::TypeFault;
-use crate::scopes::{Inputs, Scope, inputs_by_name};
 use crate::streams::{typed_stream, typed_terminal};
+use kind_rules::{TypeFault, programs_of_trees_are_typed, typed_trees_stand_for_programs};
 use list_denotation::{InputKind, InputKinds, Program};
-use pipe_grammar::{Decl, Tree};
+use pipe_kinds::{Inputs, Scope, inputs_by_name};
+use pipe_tree::{Decl, Tree};
 use std::alloc::Global;
 use strm_num::NoMemory;
 
@@ -43,20 +43,23 @@ fn input_kinds(alloc: Global, inputs: &[Decl]) -> Result<InputKinds, NoMemory>
 /// in their names.
 fn program_with(alloc: Global, inputs: &Inputs, t: &Tree) -> Result<Program, TypeFault>
     requires inputs { inputs_of inputs.now ≡ map declaration_of t.now.inputs }
-    requires names { distinct [] (declared_names (map declaration_of t.now.inputs)) ≡ Ok (names_of (declared_names (map declaration_of t.now.inputs))) }
+    requires names { distinct_names [] (declared_names (map declaration_of t.now.inputs))
+        ≡ Ok (names_of (declared_names (map declaration_of t.now.inputs))) }
     requires bounded { IsBounded (text_of t.now) }
     ensures { IsOneUnlessRefused pipeline_of result (check_of (text_of t.now)) }
 {
+    typed_trees_stand_for_programs();
+    programs_of_trees_are_typed();
     let scope = Scope {
         inputs,
         bound: Vec::new(alloc),
     };
+    let inputs = input_kinds(alloc, t.inputs.as_slice())?;
     let rows = typed_stream(alloc, &scope, &t.stream)?;
     let terminal = typed_terminal(alloc, &scope, &t.terminal, rows.kinds.as_slice())?;
-    let inputs = input_kinds(alloc, t.inputs.as_slice())?;
     Ok(Program {
         inputs,
-        stream: rows.stream,
+        stream: Box::into_inner(rows.stream),
         terminal,
     })
 }
@@ -64,7 +67,7 @@ fn program_with(alloc: Global, inputs: &Inputs, t: &Tree) -> Result<Program, Typ
 /// The program that a tree within the limits stands for, or the first fault where its text is gone
 /// through from left to right.
 ///
-/// The faults say which rule is broken, each at its place in bytes. `NoMemory` may come at any time.
+/// The faults say which rule is broken, each at its offset in bytes. `NoMemory` may come at any time.
 pub fn check(alloc: Global, t: &Tree) -> Result<Program, TypeFault>
     requires bounded { IsBounded (text_of t.now) }
     ensures checks { IsOneUnlessRefused pipeline_of result (check_of (text_of t.now)) }

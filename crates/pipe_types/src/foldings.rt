@@ -1,27 +1,28 @@
 //! What stands behind `scan` and `fold`: a state, and what it becomes with each row.
 
-ghost use Rattle.std.specs.Prelude.{◌≡◌, ◌<◌, ◌≤◌, ◌+◌, ◌^◌, length, IfOk};
-ghost use Rattle.pipe_grammar.specs.TreeCopies.{pattern_of, row_of};
-ghost use Rattle.pipe_types.specs.Checked.{IsOneUnlessRefused};
-ghost use Rattle.pipe_types.specs.Copies.{scope_of, state_of};
-ghost use Rattle.pipe_types.specs.Streams.{folding_of};
+ghost use Rattle.std.specs.Prelude.{◌≤◌, length};
+ghost use Rattle.pipe_limits.specs.declared.TheConstants.{MOST_COMPONENTS};
+ghost use Rattle.pipe_tree.specs.TreeCopies.{pattern_of, row_of};
+ghost use Rattle.kind_rules.specs.Checked.{IsOneUnlessRefused};
+ghost use Rattle.kind_rules.specs.Streams.{folding_of};
+ghost use Rattle.pipe_kinds.specs.Copies.{scope_of};
+ghost use Rattle.pipe_types.specs.Copies.{state_of};
+ghost use Rattle.pipe_types.specs.Room.{HasRoomFor};
 
-use crate::fault::TypeFault;
-use crate::rows::{next, seed, split};
-use crate::scopes::Scope;
-use list_denotation::{Exprs, Kind, Kinds};
-use pipe_grammar::{TPat, TRow};
+use kind_rules::TypeFault;
+use list_denotation::Kind;
+use pipe_kinds::{Divisions, Scope, TypedRow, next_state, typed_row};
+use pipe_tree::{TPat, TRow};
 use std::alloc::Global;
 
-/// A state: the kinds of its words, the first state and the next one.
-#[derive(Debug, Drop)]
+/// A state: the first one, and the one that it becomes with a row.
+#[derive(Drop)]
 pub struct State {
-    pub kinds: Kinds,
-    pub seed: Exprs,
-    pub next: Exprs,
+    pub seed: TypedRow,
+    pub next: TypedRow,
 }
 
-/// A state over rows of these kinds.
+/// A state over rows of these kinds, or its first fault.
 pub fn folding<'a>(
     alloc: Global,
     scope: &Scope<'a>,
@@ -31,15 +32,14 @@ pub fn folding<'a>(
     then: &TRow,
     row: &[Kind],
 ) -> Result<State, TypeFault>
-    requires inputs { length scope.now.inputs.now.entries < 2 ^ 32 }
-    requires bound { length scope.now.bound.items + 16 < 2 ^ 32 }
-    requires narrow { length row.now ≤ 8 }
-    ensures state { IsOneUnlessRefused state_of result (folding_of (scope_of scope.now) (row_of first.now) (pattern_of state.now) (pattern_of pat.now) (row_of then.now) row.now) }
-    ensures narrow { IfOk result (λ s. length s.kinds ≤ 8) }
+    requires room { HasRoomFor scope.now 1 }
+    requires narrow { length row.now ≤ MOST_COMPONENTS }
+    ensures { IsOneUnlessRefused state_of result
+        (folding_of (scope_of scope.now) (row_of first.now) (pattern_of state.now)
+        (pattern_of pat.now) (row_of then.now) row.now) }
 {
-    let typed = seed(alloc, scope, first)?;
-    let (kinds, seed) = split(alloc, typed)?;
-    let inside = scope.inside_both(alloc, state, kinds.as_slice(), pat, row)?;
-    let next = next(alloc, &inside, kinds.as_slice(), then)?;
-    Ok(State { kinds, seed, next })
+    let seed = typed_row(alloc, scope, Divisions::Refused, first)?;
+    let inside = scope.inside_both(alloc, state, seed.kinds.as_slice(), pat, row)?;
+    let next = next_state(alloc, &inside, seed.kinds.as_slice(), then)?;
+    Ok(State { seed, next })
 }

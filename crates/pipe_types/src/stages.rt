@@ -1,24 +1,39 @@
 //! The stages that hold no stream.
 
-ghost use Rattle.std.specs.Prelude.{◌≡◌, ◌<◌, ◌≤◌, ◌+◌, ◌^◌, length, IfOk};
-ghost use Rattle.list_denotation.specs.Copies.{term_of};
-ghost use Rattle.pipe_grammar.specs.TreeCopies.{formula_of, pattern_of, row_of};
-ghost use Rattle.pipe_grammar.specs.Trees.{Map, Filter, TakeWhile, Take, Drop, Scan};
-ghost use Rattle.pipe_types.specs.Checked.{IsOneUnlessRefused};
-ghost use Rattle.pipe_types.specs.Copies.{scope_of, stream_copy};
-ghost use Rattle.pipe_types.specs.Insides.{tested_of};
-ghost use Rattle.pipe_types.specs.Streams.{stage_of};
+ghost use Rattle.std.specs.Prelude.{◌≡◌, ◌≤◌, ◌&&◌, length};
+ghost use Rattle.pipe_limits.specs.declared.TheConstants.{MOST_COMPONENTS};
+ghost use Rattle.list_denotation.specs.Copies.{pipe_of, term_of};
+ghost use Rattle.list_denotation.specs.Literals.{has_words, pipe_has_words};
+ghost use Rattle.pipe_tree.specs.TreeCopies.{formula_of, pattern_of, row_of};
+ghost use Rattle.kind_rules.specs.Checked.{IsOneUnlessRefused};
+ghost use Rattle.kind_rules.specs.Streams.{count_of, map_of, row_test, scan_of, test_of};
+ghost use Rattle.pipe_kinds.specs.Copies.{expr_term, scope_of};
+ghost use Rattle.pipe_types.specs.Copies.{stream_copy};
+ghost use Rattle.pipe_types.specs.Room.{HasRoomFor};
+ghost use Rattle.pipe_types.specs.StageForms.{counted_pipe, tested_pipe};
 
-use crate::expressions::of_this_kind;
-use crate::fault::TypeFault;
-use crate::foldings::folding;
-use crate::openings::opening_of_kind;
-use crate::rows::{split, typed_row};
-use crate::scopes::Scope;
-use crate::streams::TypedStream;
+use crate::foldings::{State, folding};
+use crate::sources::boxed;
+use crate::typed_stream::TypedStream;
+use kind_rules::TypeFault;
 use list_denotation::{Expr, Kind, Stream};
-use pipe_grammar::{TExpr, TPat, TRow};
+use pipe_kinds::{Divisions, Scope, TypedExpr, of_this_kind, opening_of_kind, typed_row};
+use pipe_tree::{TExpr, TPat, TRow};
 use std::alloc::Global;
+
+/// The stages that test each row.
+#[derive(Clone, Copy)]
+pub enum RowTest {
+    Filter,
+    TakeWhile,
+}
+
+/// The stages that count rows.
+#[derive(Clone, Copy)]
+pub enum RowCount {
+    Take,
+    Drop,
+}
 
 /// The rows that a body makes of rows.
 pub fn mapped<'a>(
@@ -28,19 +43,13 @@ pub fn mapped<'a>(
     body: &TRow,
     of: TypedStream,
 ) -> Result<TypedStream, TypeFault>
-    requires inputs { length scope.now.inputs.now.entries < 2 ^ 32 }
-    requires bound { length scope.now.bound.items + 8 < 2 ^ 32 }
-    requires narrow { length of.kinds ≤ 8 }
-    ensures stream { IsOneUnlessRefused stream_copy result (stage_of (scope_of scope.now) (Map 0 (pattern_of pat.now) (row_of body.now)) (stream_copy of)) }
-    ensures narrow { IfOk result (λ s. length s.kinds ≤ 8) }
+    requires room { HasRoomFor scope.now 1 }
+    ensures { IsOneUnlessRefused stream_copy result
+        (map_of (scope_of scope.now) (pattern_of pat.now) (row_of body.now) (stream_copy of)) }
 {
     let inside = scope.inside(alloc, pat, of.kinds.as_slice())?;
-    let typed = typed_row(alloc, &inside, body)?;
-    let (kinds, body) = split(alloc, typed)?;
-    Ok(TypedStream {
-        kinds,
-        stream: Stream::Map(Box::new(alloc, of.stream)?, body),
-    })
+    let row = typed_row(alloc, &inside, Divisions::Allowed, body)?;
+    boxed(alloc, row.kinds, Stream::Map(of.stream, row.exprs))
 }
 
 /// A test of rows of these kinds.
@@ -50,96 +59,74 @@ fn test<'a>(
     pat: &'a TPat,
     e: &TExpr,
     kinds: &[Kind],
-) -> Result<Expr, TypeFault>
-    requires inputs { length scope.now.inputs.now.entries < 2 ^ 32 }
-    requires bound { length scope.now.bound.items + 8 < 2 ^ 32 }
-    requires narrow { length kinds.now ≤ 8 }
-    ensures { IsOneUnlessRefused term_of result (tested_of (scope_of scope.now) (pattern_of pat.now) (formula_of e.now) kinds.now) }
+) -> Result<TypedExpr, TypeFault>
+    requires room { HasRoomFor scope.now 1 }
+    requires narrow { length kinds.now ≤ MOST_COMPONENTS }
+    ensures { IsOneUnlessRefused expr_term result
+        (row_test (scope_of scope.now) (pattern_of pat.now) (formula_of e.now) kinds.now) }
 {
     let inside = scope.inside(alloc, pat, kinds)?;
     of_this_kind(alloc, &inside, Kind::Bool, e)
 }
 
-/// The rows that pass a test.
-pub fn filtered<'a>(
+/// A stream whose rows are tested.
+fn test_stage(form: RowTest, of: Box<Stream>, e: Expr) -> Stream
+    ensures pipe { pipe_of result ≡ tested_pipe form (pipe_of of.value) (term_of e) }
+    ensures words { pipe_has_words (pipe_of result)
+        ≡ (pipe_has_words (pipe_of of.value) && has_words (term_of e)) }
+{
+    match form {
+        RowTest::Filter => Stream::Filter(of, e),
+        RowTest::TakeWhile => Stream::TakeWhile(of, e),
+    }
+}
+
+/// The rows that pass a test, or those up to the first that fails it.
+pub fn tested<'a>(
     alloc: Global,
     scope: &Scope<'a>,
+    form: RowTest,
     pat: &'a TPat,
     e: &TExpr,
     of: TypedStream,
 ) -> Result<TypedStream, TypeFault>
-    requires inputs { length scope.now.inputs.now.entries < 2 ^ 32 }
-    requires bound { length scope.now.bound.items + 8 < 2 ^ 32 }
-    requires narrow { length of.kinds ≤ 8 }
-    ensures stream { IsOneUnlessRefused stream_copy result (stage_of (scope_of scope.now) (Filter 0 (pattern_of pat.now) (formula_of e.now)) (stream_copy of)) }
-    ensures narrow { IfOk result (λ s. length s.kinds ≤ 8) }
+    requires room { HasRoomFor scope.now 1 }
+    ensures { IsOneUnlessRefused stream_copy result
+        (test_of (scope_of scope.now) (pattern_of pat.now) (formula_of e.now) (stream_copy of)
+        (tested_pipe form)) }
 {
     let test = test(alloc, scope, pat, e, of.kinds.as_slice())?;
-    Ok(TypedStream {
-        kinds: of.kinds,
-        stream: Stream::Filter(Box::new(alloc, of.stream)?, test),
-    })
+    let stream = test_stage(form, of.stream, Box::into_inner(test.expr));
+    boxed(alloc, of.kinds, stream)
 }
 
-/// The rows up to the first that fails a test.
-pub fn taken_while<'a>(
-    alloc: Global,
-    scope: &Scope<'a>,
-    pat: &'a TPat,
-    e: &TExpr,
-    of: TypedStream,
-) -> Result<TypedStream, TypeFault>
-    requires inputs { length scope.now.inputs.now.entries < 2 ^ 32 }
-    requires bound { length scope.now.bound.items + 8 < 2 ^ 32 }
-    requires narrow { length of.kinds ≤ 8 }
-    ensures stream { IsOneUnlessRefused stream_copy result (stage_of (scope_of scope.now) (TakeWhile 0 (pattern_of pat.now) (formula_of e.now)) (stream_copy of)) }
-    ensures narrow { IfOk result (λ s. length s.kinds ≤ 8) }
+/// A stream whose rows are counted.
+fn count_stage(form: RowCount, of: Box<Stream>, e: Expr) -> Stream
+    ensures pipe { pipe_of result ≡ counted_pipe form (pipe_of of.value) (term_of e) }
+    ensures words { pipe_has_words (pipe_of result)
+        ≡ (pipe_has_words (pipe_of of.value) && has_words (term_of e)) }
 {
-    let test = test(alloc, scope, pat, e, of.kinds.as_slice())?;
-    Ok(TypedStream {
-        kinds: of.kinds,
-        stream: Stream::TakeWhile(Box::new(alloc, of.stream)?, test),
-    })
+    match form {
+        RowCount::Take => Stream::Take(of, e),
+        RowCount::Drop => Stream::Drop(of, e),
+    }
 }
 
-/// So many rows from the first on.
-pub fn taken(
+/// So many rows from the first on, or the rows but for these.
+pub fn counted(
     alloc: Global,
     scope: &Scope,
+    form: RowCount,
     count: &TExpr,
     of: TypedStream,
 ) -> Result<TypedStream, TypeFault>
-    requires inputs { length scope.now.inputs.now.entries < 2 ^ 32 }
-    requires bound { length scope.now.bound.items < 2 ^ 32 }
-    requires narrow { length of.kinds ≤ 8 }
-    ensures stream { IsOneUnlessRefused stream_copy result (stage_of (scope_of scope.now) (Take 0 (formula_of count.now)) (stream_copy of)) }
-    ensures narrow { IfOk result (λ s. length s.kinds ≤ 8) }
+    ensures { IsOneUnlessRefused stream_copy result
+        (count_of (scope_of scope.now) (formula_of count.now) (stream_copy of)
+        (counted_pipe form)) }
 {
     let count = opening_of_kind(alloc, scope, Kind::Int, count)?;
-    Ok(TypedStream {
-        kinds: of.kinds,
-        stream: Stream::Take(Box::new(alloc, of.stream)?, count),
-    })
-}
-
-/// The rows but for so many from the first on.
-pub fn dropped(
-    alloc: Global,
-    scope: &Scope,
-    skipped: &TExpr,
-    of: TypedStream,
-) -> Result<TypedStream, TypeFault>
-    requires inputs { length scope.now.inputs.now.entries < 2 ^ 32 }
-    requires bound { length scope.now.bound.items < 2 ^ 32 }
-    requires narrow { length of.kinds ≤ 8 }
-    ensures stream { IsOneUnlessRefused stream_copy result (stage_of (scope_of scope.now) (Drop 0 (formula_of skipped.now)) (stream_copy of)) }
-    ensures narrow { IfOk result (λ s. length s.kinds ≤ 8) }
-{
-    let skipped = opening_of_kind(alloc, scope, Kind::Int, skipped)?;
-    Ok(TypedStream {
-        kinds: of.kinds,
-        stream: Stream::Drop(Box::new(alloc, of.stream)?, skipped),
-    })
+    let stream = count_stage(form, of.stream, Box::into_inner(count.expr));
+    boxed(alloc, of.kinds, stream)
 }
 
 /// The states after each row.
@@ -152,19 +139,19 @@ pub fn scanned<'a>(
     next: &TRow,
     of: TypedStream,
 ) -> Result<TypedStream, TypeFault>
-    requires inputs { length scope.now.inputs.now.entries < 2 ^ 32 }
-    requires bound { length scope.now.bound.items + 16 < 2 ^ 32 }
-    requires narrow { length of.kinds ≤ 8 }
-    ensures stream { IsOneUnlessRefused stream_copy result (stage_of (scope_of scope.now) (Scan 0 (row_of seed.now) (pattern_of state.now) (pattern_of pat.now) (row_of next.now)) (stream_copy of)) }
-    ensures narrow { IfOk result (λ s. length s.kinds ≤ 8) }
+    requires room { HasRoomFor scope.now 1 }
+    ensures { IsOneUnlessRefused stream_copy result
+        (scan_of (scope_of scope.now) (row_of seed.now) (pattern_of state.now)
+        (pattern_of pat.now) (row_of next.now) (stream_copy of)) }
 {
-    let folded = folding(alloc, scope, seed, state, pat, next, of.kinds.as_slice())?;
-    Ok(TypedStream {
-        kinds: folded.kinds,
-        stream: Stream::Scan {
-            of: Box::new(alloc, of.stream)?,
-            seed: folded.seed,
-            next: folded.next,
+    let State { seed, next } = folding(alloc, scope, seed, state, pat, next, of.kinds.as_slice())?;
+    boxed(
+        alloc,
+        seed.kinds,
+        Stream::Scan {
+            of: of.stream,
+            seed: seed.exprs,
+            next: next.exprs,
         },
-    })
+    )
 }

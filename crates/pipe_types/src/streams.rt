@@ -1,29 +1,27 @@
 //! The kinds of streams and terminals, and what they stand for.
 
-ghost use Rattle.std.specs.Prelude.{◌≡◌, ◌<◌, ◌≤◌, ◌+◌, ◌*◌, ◌^◌, length, IfOk};
+ghost use Rattle.std.specs.Prelude.{◌≤◌, ◌+◌, IsTrue, length, IfOk, Ok};
+ghost use Rattle.pipe_limits.specs.declared.TheConstants.{MOST_COMPONENTS};
 ghost use Rattle.list_denotation.specs.Copies.{finish_of};
-ghost use Rattle.pipe_grammar.specs.Bounds.{stream_nesting, source_nesting, stages_nesting, stage_nesting};
-ghost use Rattle.pipe_grammar.specs.TreeCopies.{pattern_of, stream_of as stream_tree, source_of as source_tree, stages_of as stages_tree, stage_of as stage_tree, terminal_of as terminal_tree};
-ghost use Rattle.pipe_types.specs.Checked.{IsOneUnlessRefused};
-ghost use Rattle.pipe_types.specs.Copies.{scope_of, stream_copy};
-ghost use Rattle.pipe_grammar.specs.Trees.{FlatMap};
-ghost use Rattle.pipe_types.specs.Streams.{stream_of, source_of, stages_of, stage_of, terminal_of};
+ghost use Rattle.list_denotation.specs.Literals.{finish_has_words};
+ghost use Rattle.pipe_tree.specs.Bounds.{stream_nesting, source_nesting, stages_nesting, stage_nesting};
+ghost use Rattle.pipe_tree.specs.TreeCopies.{pattern_of, stream_of as stream_tree, source_of as source_tree, stages_of as stages_tree, stage_of as stage_tree, terminal_of as terminal_tree};
+ghost use Rattle.pipe_tree.specs.Trees.{FlatMap};
+ghost use Rattle.kind_rules.specs.Checked.{IsOneUnlessRefused};
+ghost use Rattle.kind_rules.specs.Streams.{stream_of, source_of, stages_of, stage_of, terminal_of};
+ghost use Rattle.pipe_kinds.specs.Copies.{scope_of};
+ghost use Rattle.pipe_types.specs.Copies.{stream_copy};
+ghost use Rattle.pipe_types.specs.Room.{HasRoomFor};
 
-use crate::fault::TypeFault;
-use crate::foldings::folding;
-use crate::scopes::Scope;
-use crate::sources::{items, range, unfolding, zipped};
-use crate::stages::{dropped, filtered, mapped, scanned, taken, taken_while};
-use list_denotation::{Kind, Kinds, Stream, Terminal};
-use pipe_grammar::{TPat, TSource, TStage, TStageNode, TStream, TTerminal};
+use crate::foldings::{State, folding};
+use crate::sources::{boxed, items, range, unfolding, zipped};
+use crate::stages::{RowCount, RowTest, counted, mapped, scanned, tested};
+use crate::typed_stream::TypedStream;
+use kind_rules::TypeFault;
+use list_denotation::{Kind, Stream, Terminal};
+use pipe_kinds::Scope;
+use pipe_tree::{TPat, TSource, TStage, TStageNode, TStream, TTerminal};
 use std::alloc::Global;
-
-/// A stream with the kinds of its rows.
-#[derive(Debug, Drop)]
-pub struct TypedStream {
-    pub kinds: Kinds,
-    pub stream: Stream,
-}
 
 /// The rows of inner streams, one after the other.
 #[cycle(streams)]
@@ -34,21 +32,17 @@ fn flattened<'a>(
     inner: &'a TStream,
     of: TypedStream,
 ) -> Result<TypedStream, TypeFault>
-    requires inputs { length scope.now.inputs.now.entries < 2 ^ 32 }
-    requires bound { length scope.now.bound.items + 8 * (stream_nesting (stream_tree inner.now) + 1) ≤ 128 }
-    requires narrow { length of.kinds ≤ 8 }
-    ensures stream { IsOneUnlessRefused stream_copy result (stage_of (scope_of scope.now) (FlatMap 0 (pattern_of pat.now) (stream_tree inner.now)) (stream_copy of)) }
-    ensures narrow { IfOk result (λ s. length s.kinds ≤ 8) }
+    requires room { HasRoomFor scope.now (stream_nesting (stream_tree inner.now) + 1) }
+    ensures { IsOneUnlessRefused stream_copy result
+        (stage_of (scope_of scope.now)
+        (FlatMap 0 (pattern_of pat.now) (stream_tree inner.now)) (stream_copy of)) }
 {
     let inside = scope.inside(alloc, pat, of.kinds.as_slice())?;
     let inner = typed_stream(alloc, &inside, inner)?;
-    Ok(TypedStream {
-        kinds: inner.kinds,
-        stream: Stream::FlatMap(Box::new(alloc, of.stream)?, Box::new(alloc, inner.stream)?),
-    })
+    boxed(alloc, inner.kinds, Stream::FlatMap(of.stream, inner.stream))
 }
 
-/// The source of a stream at this place.
+/// The source of a stream at this offset.
 #[cycle(streams)]
 fn typed_source<'a>(
     alloc: Global,
@@ -56,10 +50,9 @@ fn typed_source<'a>(
     at: u32,
     source: &'a TSource,
 ) -> Result<TypedStream, TypeFault>
-    requires inputs { length scope.now.inputs.now.entries < 2 ^ 32 }
-    requires bound { length scope.now.bound.items + 8 * source_nesting (source_tree source.now) ≤ 128 }
-    ensures stream { IsOneUnlessRefused stream_copy result (source_of (scope_of scope.now) at (source_tree source.now)) }
-    ensures narrow { IfOk result (λ s. length s.kinds ≤ 8) }
+    requires room { HasRoomFor scope.now (source_nesting (source_tree source.now)) }
+    ensures { IsOneUnlessRefused stream_copy result
+        (source_of (scope_of scope.now) at (source_tree source.now)) }
 {
     match source {
         TSource::Array(name) => items(alloc, scope, name),
@@ -87,18 +80,18 @@ fn typed_stage<'a>(
     stage: &'a TStage,
     of: TypedStream,
 ) -> Result<TypedStream, TypeFault>
-    requires inputs { length scope.now.inputs.now.entries < 2 ^ 32 }
-    requires bound { length scope.now.bound.items + 8 * stage_nesting (stage_tree stage.now) ≤ 128 }
-    requires narrow { length of.kinds ≤ 8 }
-    ensures stream { IsOneUnlessRefused stream_copy result (stage_of (scope_of scope.now) (stage_tree stage.now) (stream_copy of)) }
-    ensures narrow { IfOk result (λ s. length s.kinds ≤ 8) }
+    requires room { HasRoomFor scope.now (stage_nesting (stage_tree stage.now)) }
+    ensures { IsOneUnlessRefused stream_copy result
+        (stage_of (scope_of scope.now) (stage_tree stage.now) (stream_copy of)) }
 {
     match &stage.node {
         TStageNode::Map(pat, body) => mapped(alloc, scope, pat, body, of),
-        TStageNode::Filter(pat, test) => filtered(alloc, scope, pat, test, of),
-        TStageNode::Take(count) => taken(alloc, scope, count, of),
-        TStageNode::Drop(count) => dropped(alloc, scope, count, of),
-        TStageNode::TakeWhile(pat, test) => taken_while(alloc, scope, pat, test, of),
+        TStageNode::Filter(pat, test) => tested(alloc, scope, RowTest::Filter, pat, test, of),
+        TStageNode::Take(count) => counted(alloc, scope, RowCount::Take, count, of),
+        TStageNode::Drop(count) => counted(alloc, scope, RowCount::Drop, count, of),
+        TStageNode::TakeWhile(pat, test) => {
+            tested(alloc, scope, RowTest::TakeWhile, pat, test, of)
+        }
         TStageNode::Scan {
             seed,
             state,
@@ -117,11 +110,9 @@ fn typed_stages<'a>(
     stages: &'a [TStage],
     of: TypedStream,
 ) -> Result<TypedStream, TypeFault>
-    requires inputs { length scope.now.inputs.now.entries < 2 ^ 32 }
-    requires bound { length scope.now.bound.items + 8 * stages_nesting (stages_tree stages.now) ≤ 128 }
-    requires narrow { length of.kinds ≤ 8 }
-    ensures stream { IsOneUnlessRefused stream_copy result (stages_of (scope_of scope.now) (stages_tree stages.now) (stream_copy of)) }
-    ensures narrow { IfOk result (λ s. length s.kinds ≤ 8) }
+    requires room { HasRoomFor scope.now (stages_nesting (stages_tree stages.now)) }
+    ensures { IsOneUnlessRefused stream_copy result
+        (stages_of (scope_of scope.now) (stages_tree stages.now) (stream_copy of)) }
 {
     let mut rows = of;
     for stage in stages {
@@ -130,33 +121,33 @@ fn typed_stages<'a>(
     Ok(rows)
 }
 
-/// A stream.
+/// A stream, or its first fault.
 #[cycle(streams)]
 pub fn typed_stream<'a>(
     alloc: Global,
     scope: &Scope<'a>,
     stream: &'a TStream,
 ) -> Result<TypedStream, TypeFault>
-    requires inputs { length scope.now.inputs.now.entries < 2 ^ 32 }
-    requires bound { length scope.now.bound.items + 8 * stream_nesting (stream_tree stream.now) ≤ 128 }
-    ensures stream { IsOneUnlessRefused stream_copy result (stream_of (scope_of scope.now) (stream_tree stream.now)) }
-    ensures narrow { IfOk result (λ s. length s.kinds ≤ 8) }
+    requires room { HasRoomFor scope.now (stream_nesting (stream_tree stream.now)) }
+    ensures { IsOneUnlessRefused stream_copy result
+        (stream_of (scope_of scope.now) (stream_tree stream.now)) }
 {
     let rows = typed_source(alloc, scope, stream.at, &stream.source)?;
     typed_stages(alloc, scope, stream.stages.as_slice(), rows)
 }
 
-/// A terminal over rows of these kinds.
+/// A terminal over rows of these kinds, or its first fault.
 pub fn typed_terminal<'a>(
     alloc: Global,
     scope: &Scope<'a>,
     terminal: &'a TTerminal,
     row: &[Kind],
 ) -> Result<Terminal, TypeFault>
-    requires inputs { length scope.now.inputs.now.entries < 2 ^ 32 }
-    requires bound { length scope.now.bound.items + 16 < 2 ^ 32 }
-    requires narrow { length row.now ≤ 8 }
-    ensures { IsOneUnlessRefused finish_of result (terminal_of (scope_of scope.now) (terminal_tree terminal.now) row.now) }
+    requires room { HasRoomFor scope.now 1 }
+    requires narrow { length row.now ≤ MOST_COMPONENTS }
+    ensures terminal { IsOneUnlessRefused finish_of result
+        (terminal_of (scope_of scope.now) (terminal_tree terminal.now) row.now) }
+    ensures words { IfOk result (λ t. IsTrue (finish_has_words (finish_of t))) }
 {
     match terminal {
         TTerminal::Fold {
@@ -165,10 +156,10 @@ pub fn typed_terminal<'a>(
             pat,
             next,
         } => {
-            let folded = folding(alloc, scope, seed, state, pat, next, row)?;
+            let State { seed, next } = folding(alloc, scope, seed, state, pat, next, row)?;
             Ok(Terminal::Fold {
-                seed: folded.seed,
-                next: folded.next,
+                seed: seed.exprs,
+                next: next.exprs,
             })
         }
         TTerminal::Print => Ok(Terminal::Print),

@@ -1,6 +1,6 @@
 use Rattle.std.proofs.Common.{◌≡◌, map, take}
-use Rattle.pipe_grammar.specs.TreeCopies.{declaration_of}
-use Rattle.pipe_types.specs.Checking.{input_kinds}
+use Rattle.pipe_tree.specs.TreeCopies.{declaration_of}
+use Rattle.kind_rules.specs.Inputs.{input_kinds}
 use Rattle.pipe_types.proofs.checking.input_kinds.Given as goal
 
 abbrev pub invariant-loop-input : goal.invariant-loop-input

@@ -1,0 +1,11 @@
+pub mod Checked
+pub mod Signs
+pub mod Scopes
+pub mod PatternScopes
+pub mod Inputs
+pub mod Expressions
+pub mod Rows
+pub mod Streams
+pub mod Checking
+pub mod StandsFor
+pub mod FirstFault

@@ -1,0 +1,4 @@
+pub mod ListsInLoops
+pub mod PatternNames
+pub mod InputNames
+pub mod FoundParts
