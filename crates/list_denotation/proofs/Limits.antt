@@ -1,31 +1,25 @@
 -- The limits that a program keeps, and sums and maxima over a row.
-use Rattle.std.proofs.Common.{◌≡◌, ℕ, ◌+◌, ◌≤◌, List, length, drop, max, Some, true, false, ap, arith}
+use Rattle.std.proofs.Common.{◌≡◌, ℕ, ◌+◌, ◌≤◌, List, length, drop, Some, true, false, sym, ap, subst, ◌∙◌, arith}
 use Rattle.std.specs.Prelude.{IsTrue, slice_get, nat_le, if◌then◌else◌}
 use Rattle.std.proofs.lemmas.Bool.{leb-true}
 use Rattle.std.proofs.lemmas.List.{drop_all}
 use Rattle.strm_num.proofs.Lists.{drop_at}
 use Rattle.strm_num.proofs.Truths.{both_true}
+use Rattle.list_denotation.specs.declared.counts.Measure.{Measure}
+use Rattle.list_denotation.specs.declared.counts.Measure.TheVariants.{Nodes, Depth}
 use Rattle.list_denotation.specs.declared.expr.Expr.{Expr}
 use Rattle.list_denotation.specs.declared.input.InputKind.{InputKind}
 use Rattle.list_denotation.specs.declared.stream.Stream.{Stream}
 use Rattle.list_denotation.specs.declared.terminal.Terminal.{Terminal}
 use Rattle.list_denotation.specs.Terms.{Pipe, Array, Range, Unfold, Map, Filter, Take, Drop, TakeWhile, Scan, FlatMap, Zip, Finish}
 use Rattle.list_denotation.specs.Copies.{term_of, terms_of, pipe_of, finish_of}
-use Rattle.list_denotation.specs.Counts.{term_nodes, term_depth, row_nodes, row_depth, stream_ops, stream_nodes, stream_depth, stream_nesting, finish_nodes, finish_depth, is_exact, arm_loop, stream_loops, loops_round, stream_nest}
+use Rattle.list_denotation.specs.Counts.{joint_count, term_measure, row_measure, stream_ops, stream_nodes, stream_depth, stream_nesting, finish_nodes, finish_depth, is_exact, arm_loop, stream_loops, loops_around, stream_nest}
+use Rattle.list_denotation.specs.Limits.{IsWithinLimits}
 use Rattle.list_denotation.specs.Typing.{program_kinds, has_kinds, is_within_limits, is_typed}
 
 -- ---- what a typed program keeps
 
--- each limit as a fact of its own
-pub record Kept (inputs : List InputKind) (s : Pipe) (t : Finish) : Type 0 where
-  pub few_inputs : length inputs ≤ 16
-  pub few_ops : stream_ops s + 1 ≤ 128
-  pub few_nodes : stream_nodes s + finish_nodes t ≤ 8192
-  pub small_stream_depth : stream_depth s ≤ 200
-  pub small_finish_depth : finish_depth t ≤ 200
-  pub small_nesting : stream_nesting s ≤ 16
-
-limits_kept : (inputs : List InputKind) (s : Pipe) (t : Finish) → IsTrue (is_within_limits inputs s t) → Kept inputs s t
+limits_kept : (inputs : List InputKind) (s : Pipe) (t : Finish) → IsTrue (is_within_limits inputs s t) → IsWithinLimits inputs s t
 limits_kept inputs s t h =
     let a = both_true (nat_le (length inputs) 16) _ h in
     let b = both_true (nat_le (stream_ops s + 1) 128) _ a.1 in
@@ -41,7 +35,7 @@ limits_kept inputs s t h =
       small_nesting = leb-true (stream_nesting s) 16 e.1;
     }
 
-pub kept : (inputs : List InputKind) (s : Stream) (t : Terminal) → IsTrue (is_typed inputs s t) → Kept inputs (pipe_of s) (finish_of t)
+pub kept : (inputs : List InputKind) (s : Stream) (t : Terminal) → IsTrue (is_typed inputs s t) → IsWithinLimits inputs (pipe_of s) (finish_of t)
 kept inputs s t h = limits_kept inputs (pipe_of s) (finish_of t) (both_true (has_kinds (program_kinds inputs (pipe_of s) (finish_of t))) (is_within_limits inputs (pipe_of s) (finish_of t)) h).1
 
 pub is_kinded : (inputs : List InputKind) (s : Stream) (t : Terminal) → IsTrue (is_typed inputs s t) → IsTrue (has_kinds (program_kinds inputs (pipe_of s) (finish_of t)))
@@ -52,18 +46,18 @@ is_kinded inputs s t h = (both_true (has_kinds (program_kinds inputs (pipe_of s)
 arm_within : (s : Pipe) → arm_loop s ≤ 1
 arm_within s = elim (is_exact s) as (λ b. (if b then 0 else 1) ≤ 1) [ true ↦ omega arith | false ↦ omega arith ]
 
-pub round_within : (s : Pipe) → loops_round s ≤ stream_loops s
-round_within (Array k) = omega arith
-round_within (Range a b) = omega arith
-round_within (Unfold seed guard item next) = omega arith
-round_within (Map of body) = round_within of
-round_within (Filter of e) = round_within of
-round_within (Take of e) = round_within of
-round_within (Drop of e) = round_within of
-round_within (TakeWhile of e) = round_within of
-round_within (Scan of seed next) = round_within of
-round_within (FlatMap of inner) = omega (arith, round_within of, round_within inner)
-round_within (Zip left right) = omega (arith, round_within left)
+pub around_within : (s : Pipe) → loops_around s ≤ stream_loops s
+around_within (Array k) = omega arith
+around_within (Range a b) = omega arith
+around_within (Unfold seed guard item next) = omega arith
+around_within (Map of body) = around_within of
+around_within (Filter of e) = around_within of
+around_within (Take of e) = around_within of
+around_within (Drop of e) = around_within of
+around_within (TakeWhile of e) = around_within of
+around_within (Scan of seed next) = around_within of
+around_within (FlatMap of inner) = omega (arith, around_within of, around_within inner)
+around_within (Zip left right) = omega (arith, around_within left)
 
 pub nest_within : (s : Pipe) → stream_nest s ≤ stream_loops s
 nest_within (Array k) = omega arith
@@ -75,8 +69,8 @@ nest_within (Take of e) = nest_within of
 nest_within (Drop of e) = nest_within of
 nest_within (TakeWhile of e) = nest_within of
 nest_within (Scan of seed next) = nest_within of
-nest_within (FlatMap of inner) = omega (arith, nest_within of, nest_within inner, round_within of)
-nest_within (Zip left right) = omega (arith, nest_within left, round_within left)
+nest_within (FlatMap of inner) = omega (arith, nest_within of, nest_within inner, around_within of)
+nest_within (Zip left right) = omega (arith, nest_within left, around_within left)
 
 pub loops_within : (s : Pipe) → stream_loops s ≤ stream_ops s
 loops_within (Array k) = omega arith
@@ -113,26 +107,50 @@ few_nested inputs s t h = omega (arith, few_loops inputs s t h, nest_within (pip
 
 pub ruleset loop_limits = (few_loops, few_nested)
 
--- ---- sums and maxima over a row
+-- ---- what is counted part by part
 
-pub nodes_step : (row : List Expr) (i : ℕ) (e : Expr) → slice_get row i ≡ Some e → row_nodes (terms_of (drop i row)) ≡ term_nodes (term_of e) + row_nodes (terms_of (drop (i + 1) row))
-nodes_step row i e h = ap (λ l. row_nodes (terms_of l)) (drop_at row i e h)
+pub joint_first : (what : Measure) (m n : ℕ) → m ≤ joint_count what m n
+joint_first Nodes m n = omega arith
+joint_first Depth m n = omega arith
 
-pub nodes_end : (row : List Expr) (i : ℕ) → length row ≤ i → row_nodes (terms_of (drop i row)) ≡ 0
-nodes_end row i le = ap (λ l. row_nodes (terms_of l)) (drop_all i row le)
+pub joint_second : (what : Measure) (m n : ℕ) → n ≤ joint_count what m n
+joint_second Nodes m n = omega arith
+joint_second Depth m n = omega arith
 
-depth_at : (row : List Expr) (i : ℕ) (e : Expr) → slice_get row i ≡ Some e → row_depth (terms_of (drop i row)) ≡ max (term_depth (term_of e)) (row_depth (terms_of (drop (i + 1) row)))
-depth_at row i e h = ap (λ l. row_depth (terms_of l)) (drop_at row i e h)
+pub ruleset joint_steps = (joint_first, joint_second)
 
-pub depth_step : (row : List Expr) (i : ℕ) (e : Expr) (most all : ℕ) → slice_get row i ≡ Some e → max most (row_depth (terms_of (drop i row))) ≡ all → max (max most (term_depth (term_of e))) (row_depth (terms_of (drop (i + 1) row))) ≡ all
-depth_step row i e most all h is = omega (arith, depth_at row i e h, is)
+joint_assoc : (what : Measure) (l m n : ℕ) → joint_count what (joint_count what l m) n ≡ joint_count what l (joint_count what m n)
+joint_assoc Nodes l m n = omega arith
+joint_assoc Depth l m n = omega arith
 
-pub depth_within : (row : List Expr) (i : ℕ) (e : Expr) (most all : ℕ) → slice_get row i ≡ Some e → max most (row_depth (terms_of (drop i row))) ≡ all → all ≤ 200 → term_depth (term_of e) ≤ 200
-depth_within row i e most all h is le = omega (arith, depth_at row i e h, is, le)
+pub joint_start : (what : Measure) (n : ℕ) → joint_count what 0 n ≡ n
+joint_start Nodes n = omega arith
+joint_start Depth n = omega arith
 
-pub depth_end : (row : List Expr) (i : ℕ) → length row ≤ i → row_depth (terms_of (drop i row)) ≡ 0
-depth_end row i le = ap (λ l. row_depth (terms_of l)) (drop_all i row le)
+joint_none : (what : Measure) (n : ℕ) → joint_count what n 0 ≡ n
+joint_none Nodes n = omega arith
+joint_none Depth n = omega arith
 
-pub ruleset node_steps = (nodes_step, nodes_end)
+module _ (what : Measure) where
+  row_at : (row : List Expr) (i : ℕ) (e : Expr) → slice_get row i ≡ Some e → row_measure what (terms_of (drop i row)) ≡ joint_count what (term_measure what (term_of e)) (row_measure what (terms_of (drop (i + 1) row)))
+  row_at row i e h = ap (λ l. row_measure what (terms_of l)) (drop_at row i e h)
 
-pub ruleset depth_steps = (depth_step, depth_within, depth_end)
+  -- one more expression, and those behind it
+  pub row_step : (row : List Expr) (i : ℕ) (e : Expr) (n : ℕ) → slice_get row i ≡ Some e → joint_count what (joint_count what n (term_measure what (term_of e))) (row_measure what (terms_of (drop (i + 1) row))) ≡ joint_count what n (row_measure what (terms_of (drop i row)))
+  row_step row i e n h = joint_assoc what n (term_measure what (term_of e)) _ ∙ ap (joint_count what n) (sym (row_at row i e h))
+
+  -- it counts no more than all of them
+  pub row_within : (row : List Expr) (i : ℕ) (e : Expr) (n : ℕ) → slice_get row i ≡ Some e → joint_count what n (term_measure what (term_of e)) ≤ joint_count what n (row_measure what (terms_of (drop i row)))
+  row_within row i e n h =
+      subst (λ m. joint_count what n (term_measure what (term_of e)) ≤ m) (row_step row i e n h)
+      (joint_first what (joint_count what n (term_measure what (term_of e))) (row_measure what (terms_of (drop (i + 1) row))))
+
+  -- so it is within what all are within
+  pub row_part : (row : List Expr) (i : ℕ) (e : Expr) (n all : ℕ) → slice_get row i ≡ Some e → joint_count what n (row_measure what (terms_of (drop i row))) ≡ all → all ≤ 8192 → term_measure what (term_of e) ≤ 8192
+  row_part row i e n all h is le =
+      omega (arith, joint_second what n (term_measure what (term_of e)), row_within row i e n h, is, le)
+
+  pub row_end : (row : List Expr) (i n : ℕ) → length row ≤ i → joint_count what n (row_measure what (terms_of (drop i row))) ≡ n
+  row_end row i n h = ap (λ l. joint_count what n (row_measure what (terms_of l))) (drop_all i row h) ∙ joint_none what n
+
+pub ruleset row_steps = (joint_second, joint_start, row_step, row_within, row_end)

@@ -1,42 +1,74 @@
 -- The counts of a pipeline.
 use Rattle.std.specs.Prelude.{ℕ, ◌+◌, ◌*◌, List, [], ◌∷◌, Bool, true, false, ◌&&◌, if◌then◌else◌, max}
+use Rattle.list_denotation.specs.declared.counts.Measure.{Measure}
+use Rattle.list_denotation.specs.declared.counts.Measure.TheVariants.{Nodes, Depth}
 use Rattle.list_denotation.specs.Terms.{Term, Lit, Truth, Var, Param, Len, Neg, Not, Bin, And, Or, If, Pipe, Array, Range, Unfold, Map, Filter, Take, Drop, TakeWhile, Scan, FlatMap, Zip, Finish, Fold, Print, Pipeline}
 
--- the nodes of an expression
-abbrev pub term_nodes : Term → ℕ
-term_nodes (Lit w) = 1
-term_nodes (Truth b) = 1
-term_nodes (Var k) = 1
-term_nodes (Param k) = 1
-term_nodes (Len k) = 1
-term_nodes (Neg a) = term_nodes a + 1
-term_nodes (Not a) = term_nodes a + 1
-term_nodes (Bin op a b) = term_nodes a + term_nodes b + 1
-term_nodes (And a b) = term_nodes a + term_nodes b + 1
-term_nodes (Or a b) = term_nodes a + term_nodes b + 1
-term_nodes (If c a b) = term_nodes c + term_nodes a + term_nodes b + 1
+-- what is counted of two parts: the nodes are added, and the greater depth counts
+abbrev pub joint_count : Measure → ℕ → ℕ → ℕ
+joint_count Nodes m n = m + n
+joint_count Depth m n = max m n
 
--- 1 without parts, and else 1 more than the deepest part
+-- a leaf counts 1, and any other expression 1 more than its parts
+module _ (what : Measure) where
+  abbrev pub term_measure : Term → ℕ
+  term_measure (Lit w) = 1
+  term_measure (Truth b) = 1
+  term_measure (Var k) = 1
+  term_measure (Param k) = 1
+  term_measure (Len k) = 1
+  term_measure (Neg a) = term_measure a + 1
+  term_measure (Not a) = term_measure a + 1
+  term_measure (Bin op a b) = joint_count what (term_measure a) (term_measure b) + 1
+  term_measure (And a b) = joint_count what (term_measure a) (term_measure b) + 1
+  term_measure (Or a b) = joint_count what (term_measure a) (term_measure b) + 1
+  term_measure (If c a b) = joint_count what (term_measure c) (joint_count what (term_measure a) (term_measure b)) + 1
+
+  abbrev pub row_measure : List Term → ℕ
+  row_measure [] = 0
+  row_measure (e ∷ es) = joint_count what (term_measure e) (row_measure es)
+
+  abbrev pub stream_measure : Pipe → ℕ
+  stream_measure (Array k) = 0
+  stream_measure (Range a b) = joint_count what (term_measure a) (term_measure b)
+  stream_measure (Unfold seed guard item next) =
+      joint_count what (row_measure seed) (joint_count what (term_measure guard) (joint_count what (row_measure item) (row_measure next)))
+  stream_measure (Map of body) = joint_count what (stream_measure of) (row_measure body)
+  stream_measure (Filter of e) = joint_count what (stream_measure of) (term_measure e)
+  stream_measure (Take of e) = joint_count what (stream_measure of) (term_measure e)
+  stream_measure (Drop of e) = joint_count what (stream_measure of) (term_measure e)
+  stream_measure (TakeWhile of e) = joint_count what (stream_measure of) (term_measure e)
+  stream_measure (Scan of seed next) = joint_count what (stream_measure of) (joint_count what (row_measure seed) (row_measure next))
+  stream_measure (FlatMap of inner) = joint_count what (stream_measure of) (stream_measure inner)
+  stream_measure (Zip left right) = joint_count what (stream_measure left) (stream_measure right)
+
+  abbrev pub finish_measure : Finish → ℕ
+  finish_measure (Fold seed next) = joint_count what (row_measure seed) (row_measure next)
+  finish_measure Print = 0
+
+abbrev pub term_nodes : Term → ℕ
+term_nodes = term_measure Nodes
+
 abbrev pub term_depth : Term → ℕ
-term_depth (Lit w) = 1
-term_depth (Truth b) = 1
-term_depth (Var k) = 1
-term_depth (Param k) = 1
-term_depth (Len k) = 1
-term_depth (Neg a) = term_depth a + 1
-term_depth (Not a) = term_depth a + 1
-term_depth (Bin op a b) = max (term_depth a) (term_depth b) + 1
-term_depth (And a b) = max (term_depth a) (term_depth b) + 1
-term_depth (Or a b) = max (term_depth a) (term_depth b) + 1
-term_depth (If c a b) = max (term_depth c) (max (term_depth a) (term_depth b)) + 1
+term_depth = term_measure Depth
 
 abbrev pub row_nodes : List Term → ℕ
-row_nodes [] = 0
-row_nodes (e ∷ es) = term_nodes e + row_nodes es
+row_nodes = row_measure Nodes
 
 abbrev pub row_depth : List Term → ℕ
-row_depth [] = 0
-row_depth (e ∷ es) = max (term_depth e) (row_depth es)
+row_depth = row_measure Depth
+
+abbrev pub stream_nodes : Pipe → ℕ
+stream_nodes = stream_measure Nodes
+
+abbrev pub stream_depth : Pipe → ℕ
+stream_depth = stream_measure Depth
+
+abbrev pub finish_nodes : Finish → ℕ
+finish_nodes = finish_measure Nodes
+
+abbrev pub finish_depth : Finish → ℕ
+finish_depth = finish_measure Depth
 
 -- sources and stages
 abbrev pub stream_ops : Pipe → ℕ
@@ -52,32 +84,6 @@ stream_ops (Scan of seed next) = stream_ops of + 1
 stream_ops (FlatMap of inner) = stream_ops of + stream_ops inner + 1
 stream_ops (Zip left right) = stream_ops left + stream_ops right + 1
 
-abbrev pub stream_nodes : Pipe → ℕ
-stream_nodes (Array k) = 0
-stream_nodes (Range a b) = term_nodes a + term_nodes b
-stream_nodes (Unfold seed guard item next) = row_nodes seed + term_nodes guard + row_nodes item + row_nodes next
-stream_nodes (Map of body) = stream_nodes of + row_nodes body
-stream_nodes (Filter of e) = stream_nodes of + term_nodes e
-stream_nodes (Take of e) = stream_nodes of + term_nodes e
-stream_nodes (Drop of e) = stream_nodes of + term_nodes e
-stream_nodes (TakeWhile of e) = stream_nodes of + term_nodes e
-stream_nodes (Scan of seed next) = stream_nodes of + row_nodes seed + row_nodes next
-stream_nodes (FlatMap of inner) = stream_nodes of + stream_nodes inner
-stream_nodes (Zip left right) = stream_nodes left + stream_nodes right
-
-abbrev pub stream_depth : Pipe → ℕ
-stream_depth (Array k) = 0
-stream_depth (Range a b) = max (term_depth a) (term_depth b)
-stream_depth (Unfold seed guard item next) = max (row_depth seed) (max (term_depth guard) (max (row_depth item) (row_depth next)))
-stream_depth (Map of body) = max (stream_depth of) (row_depth body)
-stream_depth (Filter of e) = max (stream_depth of) (term_depth e)
-stream_depth (Take of e) = max (stream_depth of) (term_depth e)
-stream_depth (Drop of e) = max (stream_depth of) (term_depth e)
-stream_depth (TakeWhile of e) = max (stream_depth of) (term_depth e)
-stream_depth (Scan of seed next) = max (stream_depth of) (max (row_depth seed) (row_depth next))
-stream_depth (FlatMap of inner) = max (stream_depth of) (stream_depth inner)
-stream_depth (Zip left right) = max (stream_depth left) (stream_depth right)
-
 -- the whole stream has nesting 1, an arm of a `zip` and the inner stream of a `flatMap` one more than it
 abbrev pub stream_nesting : Pipe → ℕ
 stream_nesting (Array k) = 1
@@ -91,14 +97,6 @@ stream_nesting (TakeWhile of e) = stream_nesting of
 stream_nesting (Scan of seed next) = stream_nesting of
 stream_nesting (FlatMap of inner) = max (stream_nesting of) (stream_nesting inner + 1)
 stream_nesting (Zip left right) = max (stream_nesting left) (stream_nesting right) + 1
-
-abbrev pub finish_nodes : Finish → ℕ
-finish_nodes (Fold seed next) = row_nodes seed + row_nodes next
-finish_nodes Print = 0
-
-abbrev pub finish_depth : Finish → ℕ
-finish_depth (Fold seed next) = max (row_depth seed) (row_depth next)
-finish_depth Print = 0
 
 -- sources, stages and the terminal
 abbrev pub ops : Pipeline → ℕ
@@ -150,19 +148,19 @@ stream_loops (Scan of seed next) = stream_loops of
 stream_loops (FlatMap of inner) = stream_loops of + stream_loops inner
 stream_loops (Zip left right) = stream_loops left + arm_loop right
 
--- the loops that stand round a row of the stream
-abbrev pub loops_round : Pipe → ℕ
-loops_round (Array k) = 1
-loops_round (Range a b) = 1
-loops_round (Unfold seed guard item next) = 1
-loops_round (Map of body) = loops_round of
-loops_round (Filter of e) = loops_round of
-loops_round (Take of e) = loops_round of
-loops_round (Drop of e) = loops_round of
-loops_round (TakeWhile of e) = loops_round of
-loops_round (Scan of seed next) = loops_round of
-loops_round (FlatMap of inner) = loops_round of + loops_round inner
-loops_round (Zip left right) = loops_round left
+-- the loops that stand around a row of the stream
+abbrev pub loops_around : Pipe → ℕ
+loops_around (Array k) = 1
+loops_around (Range a b) = 1
+loops_around (Unfold seed guard item next) = 1
+loops_around (Map of body) = loops_around of
+loops_around (Filter of e) = loops_around of
+loops_around (Take of e) = loops_around of
+loops_around (Drop of e) = loops_around of
+loops_around (TakeWhile of e) = loops_around of
+loops_around (Scan of seed next) = loops_around of
+loops_around (FlatMap of inner) = loops_around of + loops_around inner
+loops_around (Zip left right) = loops_around left
 
 -- the most loops inside one another
 abbrev pub stream_nest : Pipe → ℕ
@@ -175,8 +173,8 @@ stream_nest (Take of e) = stream_nest of
 stream_nest (Drop of e) = stream_nest of
 stream_nest (TakeWhile of e) = stream_nest of
 stream_nest (Scan of seed next) = stream_nest of
-stream_nest (FlatMap of inner) = max (stream_nest of) (loops_round of + stream_nest inner)
-stream_nest (Zip left right) = max (stream_nest left) (loops_round left + arm_loop right)
+stream_nest (FlatMap of inner) = max (stream_nest of) (loops_around of + stream_nest inner)
+stream_nest (Zip left right) = max (stream_nest left) (loops_around left + arm_loop right)
 
 abbrev pub loops_of : Pipeline → ℕ
 loops_of p = stream_loops p.stream

@@ -5,7 +5,7 @@ use Rattle.list_denotation.specs.declared.input.Input.{Input}
 use Rattle.list_denotation.specs.Terms.{Pipe, Array, Range, Unfold, Map, Filter, Take, Drop, TakeWhile, Scan, FlatMap, Zip}
 use Rattle.list_denotation.specs.Inputs.{items_in}
 use Rattle.list_denotation.specs.Values.{value, row_value}
-use Rattle.list_denotation.specs.Rows.{Rows, unless_broken, firsts, single_rows, unfolded, mapped, filtered, taken, dropped, taken_while, scanned, joined, zipped}
+use Rattle.list_denotation.specs.Rows.{Rows, unless_broken, firsts, single_rows, unfold_rows, map_rows, filter_rows, take_rows, drop_rows, take_while_rows, scan_rows, join_rows, zip_rows}
 
 -- a whole number as a count, where one below zero counts as 0
 abbrev pub count_of : ℤ → ℕ
@@ -27,13 +27,13 @@ denotation (Range a b) env inputs n =
     unless_broken (value a env inputs) (λ low. unless_broken (value b env inputs) (λ high. firsts n (single_rows (words_between low high))))
 denotation (Unfold seed guard item next) env inputs n =
     unless_broken (row_value seed env inputs)
-    (unfolded (λ s. value guard (env ++ s) inputs) (λ s. row_value item (env ++ s) inputs) (λ s. row_value next (env ++ s) inputs) n)
-denotation (Map of body) env inputs n = mapped (λ r. row_value body (env ++ r) inputs) (denotation of env inputs n)
-denotation (Filter of e) env inputs n = filtered (λ r. value e (env ++ r) inputs) (denotation of env inputs n)
-denotation (Take of e) env inputs n = unless_broken (value e env inputs) (λ k. taken (count_of (signed k)) (denotation of env inputs n))
-denotation (Drop of e) env inputs n = unless_broken (value e env inputs) (λ k. dropped (count_of (signed k)) (denotation of env inputs n))
-denotation (TakeWhile of e) env inputs n = taken_while (λ r. value e (env ++ r) inputs) (denotation of env inputs n)
+    (unfold_rows (λ s. value guard (env ++ s) inputs) (λ s. row_value item (env ++ s) inputs) (λ s. row_value next (env ++ s) inputs) n)
+denotation (Map of body) env inputs n = map_rows (λ r. row_value body (env ++ r) inputs) (denotation of env inputs n)
+denotation (Filter of e) env inputs n = filter_rows (λ r. value e (env ++ r) inputs) (denotation of env inputs n)
+denotation (Take of e) env inputs n = unless_broken (value e env inputs) (λ k. take_rows (count_of (signed k)) (denotation of env inputs n))
+denotation (Drop of e) env inputs n = unless_broken (value e env inputs) (λ k. drop_rows (count_of (signed k)) (denotation of env inputs n))
+denotation (TakeWhile of e) env inputs n = take_while_rows (λ r. value e (env ++ r) inputs) (denotation of env inputs n)
 denotation (Scan of seed next) env inputs n =
-    unless_broken (row_value seed env inputs) (λ s. scanned (λ state r. row_value next (env ++ (state ++ r)) inputs) s (denotation of env inputs n))
-denotation (FlatMap of inner) env inputs n = joined (denotation of env inputs n) (λ r. denotation inner (env ++ r) inputs n)
-denotation (Zip left right) env inputs n = zipped (denotation left env inputs n) (denotation right env inputs n)
+    unless_broken (row_value seed env inputs) (λ s. scan_rows (λ state r. row_value next (env ++ (state ++ r)) inputs) s (denotation of env inputs n))
+denotation (FlatMap of inner) env inputs n = join_rows (denotation of env inputs n) (λ r. denotation inner (env ++ r) inputs n)
+denotation (Zip left right) env inputs n = zip_rows (denotation left env inputs n) (denotation right env inputs n)

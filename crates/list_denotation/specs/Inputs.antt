@@ -1,6 +1,7 @@
 -- The inputs of a run.
 use Rattle.std.specs.Prelude.{ℕ, ◌≤◌, List, [], ◌∷◌, length, Option, Some, None, All}
 use Rattle.strm_num.specs.Words.{IsWord}
+use Rattle.pipe_limits.specs.declared.TheConstants.{MOST_ITEMS}
 use Rattle.list_denotation.specs.declared.input.Input.{Input}
 use Rattle.list_denotation.specs.declared.input.Input.TheVariants.{Array, Int}
 use Rattle.list_denotation.specs.declared.input.InputKind.{InputKind}
@@ -20,7 +21,7 @@ word_in None = 0
 
 -- an input of this kind: words, and not too many of them
 abbrev pub IsInput : InputKind → Input → Type 0
-IsInput kind.Array (Array items) = All IsWord items × (length items ≤ 4194304)
+IsInput kind.Array (Array items) = All IsWord items × (length items ≤ MOST_ITEMS)
 IsInput kind.Array (Int w) = ⊥
 IsInput kind.Int (Array items) = ⊥
 IsInput kind.Int (Int w) = IsWord w

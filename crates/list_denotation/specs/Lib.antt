@@ -10,3 +10,8 @@ pub mod Far
 pub mod Work
 pub mod Counts
 pub mod Typing
+pub mod Leaves
+pub mod Scopes
+pub mod Literals
+pub mod InputNames
+pub mod Limits

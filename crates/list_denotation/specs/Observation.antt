@@ -28,9 +28,9 @@ row_events [] rest = EndRow ∷ rest
 row_events (x ∷ row) rest = Emit x ∷ row_events row rest
 
 -- what is seen where each row is printed
-abbrev pub printed : Rows → Seen
-printed (Ends e) = record { events = []; standing = standing_of e }
-printed (Row r rest) = record { events = row_events r (printed rest).events; standing = (printed rest).standing }
+abbrev pub print_rows : Rows → Seen
+print_rows (Ends e) = record { events = []; standing = standing_of e }
+print_rows (Row r rest) = record { events = row_events r (print_rows rest).events; standing = (print_rows rest).standing }
 
 -- what is seen of a state where a stream ends like this: it is printed at the end alone
 abbrev pub state_at : Ending → List ℕ → Seen
@@ -44,15 +44,15 @@ unless_failed (Is s) go = go s
 unless_failed (Fails f) go = record { events = []; standing = Failed f }
 
 -- what is seen where the rows are folded into a state
-abbrev pub folded : (List ℕ → List ℕ → Got (List ℕ)) → List ℕ → Rows → Seen
-folded f state (Ends e) = state_at e state
-folded f state (Row r rest) = unless_failed (f state r) (λ s. folded f s rest)
+abbrev pub fold_rows : (List ℕ → List ℕ → Got (List ℕ)) → List ℕ → Rows → Seen
+fold_rows f state (Ends e) = state_at e state
+fold_rows f state (Row r rest) = unless_failed (f state r) (λ s. fold_rows f s rest)
 
-abbrev pub finished : Finish → List Input → Rows → Seen
-finished (Fold seed next) inputs rows =
-    unless_failed (row_value seed [] inputs) (λ s. folded (λ state r. row_value next (state ++ r) inputs) s rows)
-finished Print inputs rows = printed rows
+abbrev pub finish_rows : Finish → List Input → Rows → Seen
+finish_rows (Fold seed next) inputs rows =
+    unless_failed (row_value seed [] inputs) (λ s. fold_rows (λ state r. row_value next (state ++ r) inputs) s rows)
+finish_rows Print inputs rows = print_rows rows
 
 -- the observation of a pipeline at n pulls
 abbrev pub observation : Pipeline → List Input → ℕ → Seen
-observation p inputs n = finished p.terminal inputs (denotation p.stream [] inputs n)
+observation p inputs n = finish_rows p.terminal inputs (denotation p.stream [] inputs n)

@@ -30,45 +30,45 @@ single_rows [] = []
 single_rows (x ∷ xs) = (x ∷ []) ∷ single_rows xs
 
 -- the items of the states from one on, while the guard holds, and at most n of them
-abbrev pub unfolded : (List ℕ → Got ℕ) → (List ℕ → Got (List ℕ)) → (List ℕ → Got (List ℕ)) → ℕ → List ℕ → Rows
-unfolded guard item next zero state = unless_broken (guard state) (λ g. choice g (Ends End) (Ends Cut))
-unfolded guard item next (suc n) state =
+abbrev pub unfold_rows : (List ℕ → Got ℕ) → (List ℕ → Got (List ℕ)) → (List ℕ → Got (List ℕ)) → ℕ → List ℕ → Rows
+unfold_rows guard item next zero state = unless_broken (guard state) (λ g. choice g (Ends End) (Ends Cut))
+unfold_rows guard item next (suc n) state =
     unless_broken (guard state) (λ g. choice g (Ends End)
-    (unless_broken (item state) (λ r. unless_broken (next state) (λ s. Row r (unfolded guard item next n s)))))
+    (unless_broken (item state) (λ r. unless_broken (next state) (λ s. Row r (unfold_rows guard item next n s)))))
 
 -- ---- stages
 
 -- what a function makes of each row, up to its first fault
-abbrev pub mapped : (List ℕ → Got (List ℕ)) → Rows → Rows
-mapped f (Ends e) = Ends e
-mapped f (Row r rest) = unless_broken (f r) (λ s. Row s (mapped f rest))
+abbrev pub map_rows : (List ℕ → Got (List ℕ)) → Rows → Rows
+map_rows f (Ends e) = Ends e
+map_rows f (Row r rest) = unless_broken (f r) (λ s. Row s (map_rows f rest))
 
 -- the rows of which a test is true, up to its first fault
-abbrev pub filtered : (List ℕ → Got ℕ) → Rows → Rows
-filtered f (Ends e) = Ends e
-filtered f (Row r rest) = unless_broken (f r) (λ b. choice b (filtered f rest) (Row r (filtered f rest)))
+abbrev pub filter_rows : (List ℕ → Got ℕ) → Rows → Rows
+filter_rows f (Ends e) = Ends e
+filter_rows f (Row r rest) = unless_broken (f r) (λ b. choice b (filter_rows f rest) (Row r (filter_rows f rest)))
 
 -- the first k rows
-abbrev pub taken : ℕ → Rows → Rows
-taken zero rows = Ends End
-taken (suc k) (Ends e) = Ends e
-taken (suc k) (Row r rest) = Row r (taken k rest)
+abbrev pub take_rows : ℕ → Rows → Rows
+take_rows zero rows = Ends End
+take_rows (suc k) (Ends e) = Ends e
+take_rows (suc k) (Row r rest) = Row r (take_rows k rest)
 
 -- all but the first k rows
-abbrev pub dropped : ℕ → Rows → Rows
-dropped zero rows = rows
-dropped (suc k) (Ends e) = Ends e
-dropped (suc k) (Row r rest) = dropped k rest
+abbrev pub drop_rows : ℕ → Rows → Rows
+drop_rows zero rows = rows
+drop_rows (suc k) (Ends e) = Ends e
+drop_rows (suc k) (Row r rest) = drop_rows k rest
 
 -- the rows before the first of which a test is false
-abbrev pub taken_while : (List ℕ → Got ℕ) → Rows → Rows
-taken_while f (Ends e) = Ends e
-taken_while f (Row r rest) = unless_broken (f r) (λ b. choice b (Ends End) (Row r (taken_while f rest)))
+abbrev pub take_while_rows : (List ℕ → Got ℕ) → Rows → Rows
+take_while_rows f (Ends e) = Ends e
+take_while_rows f (Row r rest) = unless_broken (f r) (λ b. choice b (Ends End) (Row r (take_while_rows f rest)))
 
 -- the state after each row
-abbrev pub scanned : (List ℕ → List ℕ → Got (List ℕ)) → List ℕ → Rows → Rows
-scanned f state (Ends e) = Ends e
-scanned f state (Row r rest) = unless_broken (f state r) (λ s. Row s (scanned f s rest))
+abbrev pub scan_rows : (List ℕ → List ℕ → Got (List ℕ)) → List ℕ → Rows → Rows
+scan_rows f state (Ends e) = Ends e
+scan_rows f state (Row r rest) = unless_broken (f state r) (λ s. Row s (scan_rows f s rest))
 
 -- one list and then another, where the first comes to its end
 abbrev pub followed_by : Rows → Rows → Rows
@@ -78,12 +78,12 @@ followed_by (Ends (Broken f)) rest = Ends (Broken f)
 followed_by (Row r rows) rest = Row r (followed_by rows rest)
 
 -- the inner lists of the rows, one after the other
-abbrev pub joined : Rows → (List ℕ → Rows) → Rows
-joined (Ends e) inner = Ends e
-joined (Row r rest) inner = followed_by (inner r) (joined rest inner)
+abbrev pub join_rows : Rows → (List ℕ → Rows) → Rows
+join_rows (Ends e) inner = Ends e
+join_rows (Row r rest) inner = followed_by (inner r) (join_rows rest inner)
 
 -- the rows of two lists side by side, up to the shorter length
-abbrev pub zipped : Rows → Rows → Rows
-zipped (Ends e) right = Ends e
-zipped (Row r left) (Ends e) = Ends e
-zipped (Row r left) (Row s right) = Row (r ++ s) (zipped left right)
+abbrev pub zip_rows : Rows → Rows → Rows
+zip_rows (Ends e) right = Ends e
+zip_rows (Row r left) (Ends e) = Ends e
+zip_rows (Row r left) (Row s right) = Row (r ++ s) (zip_rows left right)

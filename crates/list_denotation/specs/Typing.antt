@@ -1,6 +1,8 @@
 -- What a program keeps: it is typed, and within the limits. The kinds of expressions, rows and streams
--- are options, and none where a part has not the kinds that its place asks for.
+-- are options, and none where a part has not the kinds that its context asks for.
 use Rattle.std.specs.Prelude.{◌+◌, List, [], ◌∷◌, ◌++◌, length, Option, Some, None, Bool, true, false, ◌&&◌, nat_le, slice_get, if◌then◌else◌}
+use Rattle.std.specs.List.{list_all}
+use Rattle.pipe_limits.specs.declared.TheConstants.{MOST_INPUTS, MOST_OPERATORS, MOST_NODES, MOST_DEPTH, MOST_NESTING, MOST_COMPONENTS}
 use Rattle.list_denotation.specs.declared.expr.BinOp.{BinOp}
 use Rattle.list_denotation.specs.declared.expr.BinOp.TheVariants.{Add, Sub, Mul, Div, Rem, Eq, Ne, Lt, Le, Gt, Ge}
 use Rattle.list_denotation.specs.declared.input.InputKind.{InputKind}
@@ -87,8 +89,7 @@ is_undivided (Or a b) = is_undivided a && is_undivided b
 is_undivided (If c a b) = is_undivided c && (is_undivided a && is_undivided b)
 
 abbrev pub all_undivided : List Term → Bool
-all_undivided [] = true
-all_undivided (e ∷ es) = is_undivided e && all_undivided es
+all_undivided = list_all is_undivided
 
 -- ---- rows
 
@@ -101,9 +102,9 @@ abbrev pub kinds_of : List InputKind → List Kind → List Term → Option (Lis
 kinds_of inputs scope [] = Some []
 kinds_of inputs scope (e ∷ es) = one_more (kind_of inputs scope e) (kinds_of inputs scope es)
 
--- a row has 1 to 8 words
+-- a row has at least one word
 abbrev pub row_kinds : List InputKind → List Kind → List Term → Option (List Kind)
-row_kinds inputs scope es = if nat_le 1 (length es) && nat_le (length es) 8 then kinds_of inputs scope es else None
+row_kinds inputs scope es = if nat_le 1 (length es) && nat_le (length es) MOST_COMPONENTS then kinds_of inputs scope es else None
 
 abbrev pub same_kinds : List Kind → Option (List Kind) → Bool
 same_kinds [] (Some []) = true
@@ -137,7 +138,7 @@ unfold_kinds inputs scope guard item next state =
     if opens inputs (scope ++ state) kind.Bool guard && same_kinds state (row_kinds inputs (scope ++ state) next) then row_kinds inputs (scope ++ state) item else None
 
 abbrev pub joined_kinds : List Kind → List Kind → Option (List Kind)
-joined_kinds left right = kinds_where (nat_le (length (left ++ right)) 8) (left ++ right)
+joined_kinds left right = kinds_where (nat_le (length (left ++ right)) MOST_COMPONENTS) (left ++ right)
 
 -- the kinds of a stream's rows, in the scope of bound words of these kinds
 abbrev pub stream_kinds : List InputKind → List Kind → Pipe → Option (List Kind)
@@ -161,6 +162,11 @@ finish_kinds inputs Print row = Some row
 abbrev pub program_kinds : List InputKind → Pipe → Finish → Option (List Kind)
 program_kinds inputs s t = with_kinds (stream_kinds inputs [] s) (λ row. finish_kinds inputs t row)
 
+-- some kinds, and behind them these, where there are any
+abbrev pub append_kinds : List Kind → Option (List Kind) → Option (List Kind)
+append_kinds first None = None
+append_kinds first (Some ks) = Some (first ++ ks)
+
 abbrev pub has_kinds : Option (List Kind) → Bool
 has_kinds None = false
 has_kinds (Some ks) = true
@@ -170,10 +176,11 @@ has_kinds (Some ks) = true
 -- the operators of a program are those of its stream and the terminal
 abbrev pub is_within_limits : List InputKind → Pipe → Finish → Bool
 is_within_limits inputs s t =
-    nat_le (length inputs) 16
-    && (nat_le (stream_ops s + 1) 128
-    && (nat_le (stream_nodes s + finish_nodes t) 8192
-    && (nat_le (stream_depth s) 200 && (nat_le (finish_depth t) 200 && nat_le (stream_nesting s) 16))))
+    nat_le (length inputs) MOST_INPUTS
+    && (nat_le (stream_ops s + 1) MOST_OPERATORS
+    && (nat_le (stream_nodes s + finish_nodes t) MOST_NODES
+    && (nat_le (stream_depth s) MOST_DEPTH
+    && (nat_le (finish_depth t) MOST_DEPTH && nat_le (stream_nesting s) MOST_NESTING))))
 
 abbrev pub is_typed : List InputKind → Stream → Terminal → Bool
 is_typed inputs stream terminal =

@@ -25,17 +25,17 @@ abbrev pub choice : {A : Type 0} → ℕ → A → A → A
 choice zero at_false at_true = at_false
 choice (suc w) at_false at_true = at_true
 
--- a quotient or remainder, unless the divisor is 0
-abbrev pub divided : ℕ → ℕ → Got ℕ
-divided zero q = Fails Trap
-divided (suc y) q = Is q
+-- a quotient or remainder, and a fault where the divisor is 0
+abbrev pub unless_zero : Fault → ℕ → ℕ → Got ℕ
+unless_zero f zero q = Fails f
+unless_zero f (suc y) q = Is q
 
 abbrev pub operation_of : BinOp → ℕ → ℕ → Got ℕ
 operation_of Add x y = Is (sum_of x y)
 operation_of Sub x y = Is (difference_of x y)
 operation_of Mul x y = Is (product_of x y)
-operation_of Div x y = divided y (quotient_of x y)
-operation_of Rem x y = divided y (remainder_of x y)
+operation_of Div x y = unless_zero Trap y (quotient_of x y)
+operation_of Rem x y = unless_zero Trap y (remainder_of x y)
 operation_of Eq x y = Is (truth_of (x == y))
 operation_of Ne x y = Is (truth_of (not (x == y)))
 operation_of Lt x y = Is (truth_of (is_less x y))

@@ -1,7 +1,12 @@
+ghost use Rattle.pipe_limits.specs.declared.TheConstants.{MOST_NODES, MOST_OPERATORS};
 ghost use Rattle.std.specs.Prelude.{◌≡◌, ◌≤◌, ◌+◌, ◌*◌};
 ghost use Rattle.list_denotation.specs.Copies.{term_of, terms_of, pipe_of, finish_of};
 ghost use Rattle.list_denotation.specs.Pipelines.{pipeline_of};
-ghost use Rattle.list_denotation.specs.Counts.{term_nodes, term_depth, row_nodes, row_depth, stream_ops, stream_nodes, stream_depth, finish_nodes, finish_depth, is_exact, arm_loop, stream_loops, loops_round, stream_nest, ops, nodes, depth, most_vars, most_stmts, loops_of, nest_of};
+ghost use Rattle.list_denotation.specs.Counts.{joint_count, term_measure, row_measure, stream_measure};
+ghost use Rattle.list_denotation.specs.Counts.{finish_measure, stream_ops, is_exact, arm_loop};
+ghost use Rattle.list_denotation.specs.Counts.{stream_loops, loops_around, stream_nest};
+ghost use Rattle.list_denotation.specs.Counts.{ops, nodes, depth, most_vars, most_stmts};
+ghost use Rattle.list_denotation.specs.Counts.{loops_of, nest_of};
 
 use crate::expr::{Expr, Exprs};
 use crate::program::Program;
@@ -21,7 +26,7 @@ pub fn ops(p: &Program) -> u64
 pub fn nodes(p: &Program) -> u64
     ensures { result ≡ nodes (pipeline_of p.now) }
 {
-    stream_nodes(&p.stream) + finish_nodes(&p.terminal)
+    stream_measure(Measure::Nodes, &p.stream) + finish_measure(Measure::Nodes, &p.terminal)
 }
 
 /// The greatest depth of an expression of a program, at most 200, and 0 where there is none.
@@ -29,7 +34,7 @@ pub fn nodes(p: &Program) -> u64
 pub fn depth(p: &Program) -> u64
     ensures { result ≡ depth (pipeline_of p.now) }
 {
-    stream_depth(&p.stream).max(finish_depth(&p.terminal))
+    stream_measure(Measure::Depth, &p.stream).max(finish_measure(Measure::Depth, &p.terminal))
 }
 
 /// The loops of a program whose loops are nested as its streams are, from 1 to 127: one for each
@@ -69,7 +74,7 @@ pub fn most_stmts(p: &Program) -> u64
 }
 
 fn stream_ops(s: &Stream) -> u64
-    requires { stream_ops (pipe_of s.now) ≤ 128 }
+    requires { stream_ops (pipe_of s.now) ≤ MOST_OPERATORS }
     ensures { result ≡ stream_ops (pipe_of s.now) }
 {
     match s {
@@ -87,73 +92,109 @@ fn stream_ops(s: &Stream) -> u64
     }
 }
 
-fn stream_nodes(s: &Stream) -> u64
-    requires { stream_nodes (pipe_of s.now) ≤ 8192 }
-    ensures { result ≡ stream_nodes (pipe_of s.now) }
+/// What is counted of expressions: their nodes, or how deep they are.
+#[derive(Clone, Copy)]
+enum Measure {
+    Nodes,
+    Depth,
+}
+
+/// What is counted of two parts.
+fn joint_count(what: Measure, first: u64, second: u64) -> u64
+    requires { joint_count what first second ≤ MOST_NODES }
+    ensures { result ≡ joint_count what first second }
+{
+    match what {
+        Measure::Nodes => first + second,
+        Measure::Depth => first.max(second),
+    }
+}
+
+#[tactic(auto, using(crate::proofs::Limits::joint_steps))]
+fn stream_measure(what: Measure, s: &Stream) -> u64
+    requires { stream_measure what (pipe_of s.now) ≤ MOST_NODES }
+    ensures { result ≡ stream_measure what (pipe_of s.now) }
 {
     match s {
         Stream::Array(_) => 0,
-        Stream::Range(low, high) => term_nodes(low) + term_nodes(high),
+        Stream::Range(low, high) => joint_count(
+            what,
+            term_measure(what, low),
+            term_measure(what, high),
+        ),
         Stream::Unfold {
             seed,
             guard,
             item,
             next,
-        } => row_nodes(seed) + term_nodes(guard) + row_nodes(item) + row_nodes(next),
-        Stream::Map(of, body) => stream_nodes(of) + row_nodes(body),
-        Stream::Filter(of, e) => stream_nodes(of) + term_nodes(e),
-        Stream::Take(of, e) => stream_nodes(of) + term_nodes(e),
-        Stream::Drop(of, e) => stream_nodes(of) + term_nodes(e),
-        Stream::TakeWhile(of, e) => stream_nodes(of) + term_nodes(e),
-        Stream::Scan { of, seed, next } => stream_nodes(of) + row_nodes(seed) + row_nodes(next),
-        Stream::FlatMap(of, inner) => stream_nodes(of) + stream_nodes(inner),
-        Stream::Zip(left, right) => stream_nodes(left) + stream_nodes(right),
+        } => {
+            let behind = joint_count(what, row_measure(what, item), row_measure(what, next));
+            let behind = joint_count(what, term_measure(what, guard), behind);
+            joint_count(what, row_measure(what, seed), behind)
+        }
+        Stream::Map(of, body) => joint_count(
+            what,
+            stream_measure(what, of),
+            row_measure(what, body),
+        ),
+        Stream::Filter(of, e) => joint_count(what, stream_measure(what, of), term_measure(what, e)),
+        Stream::Take(of, e) => joint_count(what, stream_measure(what, of), term_measure(what, e)),
+        Stream::Drop(of, e) => joint_count(what, stream_measure(what, of), term_measure(what, e)),
+        Stream::TakeWhile(of, e) => joint_count(
+            what,
+            stream_measure(what, of),
+            term_measure(what, e),
+        ),
+        Stream::Scan { of, seed, next } => {
+            let rows = joint_count(what, row_measure(what, seed), row_measure(what, next));
+            joint_count(what, stream_measure(what, of), rows)
+        }
+        Stream::FlatMap(a, b) | Stream::Zip(a, b) => {
+            joint_count(what, stream_measure(what, a), stream_measure(what, b))
+        }
     }
 }
 
-fn stream_depth(s: &Stream) -> u64
-    requires { stream_depth (pipe_of s.now) ≤ 200 }
-    ensures { result ≡ stream_depth (pipe_of s.now) }
-{
-    match s {
-        Stream::Array(_) => 0,
-        Stream::Range(low, high) => term_depth(low).max(term_depth(high)),
-        Stream::Unfold {
-            seed,
-            guard,
-            item,
-            next,
-        } => row_depth(seed).max(term_depth(guard).max(row_depth(item).max(row_depth(next)))),
-        Stream::Map(of, body) => stream_depth(of).max(row_depth(body)),
-        Stream::Filter(of, e) => stream_depth(of).max(term_depth(e)),
-        Stream::Take(of, e) => stream_depth(of).max(term_depth(e)),
-        Stream::Drop(of, e) => stream_depth(of).max(term_depth(e)),
-        Stream::TakeWhile(of, e) => stream_depth(of).max(term_depth(e)),
-        Stream::Scan { of, seed, next } => stream_depth(of).max(row_depth(seed).max(row_depth(
-            next,
-        ))),
-        Stream::FlatMap(of, inner) => stream_depth(of).max(stream_depth(inner)),
-        Stream::Zip(left, right) => stream_depth(left).max(stream_depth(right)),
-    }
-}
-
-fn finish_nodes(t: &Terminal) -> u64
-    requires { finish_nodes (finish_of t.now) ≤ 8192 }
-    ensures { result ≡ finish_nodes (finish_of t.now) }
+#[tactic(auto, using(crate::proofs::Limits::joint_steps))]
+fn finish_measure(what: Measure, t: &Terminal) -> u64
+    requires { finish_measure what (finish_of t.now) ≤ MOST_NODES }
+    ensures { result ≡ finish_measure what (finish_of t.now) }
 {
     match t {
-        Terminal::Fold { seed, next } => row_nodes(seed) + row_nodes(next),
+        Terminal::Fold { seed, next } => {
+            joint_count(what, row_measure(what, seed), row_measure(what, next))
+        }
         Terminal::Print => 0,
     }
 }
 
-fn finish_depth(t: &Terminal) -> u64
-    requires { finish_depth (finish_of t.now) ≤ 200 }
-    ensures { result ≡ finish_depth (finish_of t.now) }
+#[tactic(auto, using(crate::proofs::Limits::row_steps))]
+fn row_measure(what: Measure, row: &Exprs) -> u64
+    requires { row_measure what (terms_of row.now) ≤ MOST_NODES }
+    ensures { result ≡ row_measure what (terms_of row.now) }
 {
-    match t {
-        Terminal::Fold { seed, next } => row_depth(seed).max(row_depth(next)),
-        Terminal::Print => 0,
+    let mut counted = 0u64;
+    for i in 0..row.len() {
+        counted = joint_count(what, counted, term_measure(what, row.get(i)));
+    }
+    counted
+}
+
+#[tactic(auto, using(crate::proofs::Limits::joint_steps))]
+fn term_measure(what: Measure, e: &Expr) -> u64
+    requires { term_measure what (term_of e.now) ≤ MOST_NODES }
+    ensures { result ≡ term_measure what (term_of e.now) }
+{
+    match e {
+        Expr::Lit(_) | Expr::Truth(_) | Expr::Var(_) | Expr::Param(_) | Expr::Len(_) => 1,
+        Expr::Neg(a) | Expr::Not(a) => term_measure(what, a) + 1,
+        Expr::Bin(_, a, b) | Expr::And(a, b) | Expr::Or(a, b) => {
+            joint_count(what, term_measure(what, a), term_measure(what, b)) + 1
+        }
+        Expr::If(c, a, b) => {
+            let branches = joint_count(what, term_measure(what, a), term_measure(what, b));
+            joint_count(what, term_measure(what, c), branches) + 1
+        }
     }
 }
 
@@ -180,7 +221,7 @@ fn arm_loop(right: &Stream) -> u64
 }
 
 fn stream_loops(s: &Stream) -> u64
-    requires { stream_loops (pipe_of s.now) ≤ 128 }
+    requires { stream_loops (pipe_of s.now) ≤ MOST_OPERATORS }
     ensures { result ≡ stream_loops (pipe_of s.now) }
 {
     match s {
@@ -196,26 +237,26 @@ fn stream_loops(s: &Stream) -> u64
     }
 }
 
-/// The loops that stand round a row of the stream.
-fn loops_round(s: &Stream) -> u64
-    requires { loops_round (pipe_of s.now) ≤ 128 }
-    ensures { result ≡ loops_round (pipe_of s.now) }
+/// The loops that stand around a row of the stream.
+fn loops_around(s: &Stream) -> u64
+    requires { loops_around (pipe_of s.now) ≤ MOST_OPERATORS }
+    ensures { result ≡ loops_around (pipe_of s.now) }
 {
     match s {
         Stream::Array(_) | Stream::Range(_, _) | Stream::Unfold { .. } => 1,
-        Stream::Map(of, _) => loops_round(of),
-        Stream::Filter(of, _) => loops_round(of),
-        Stream::Take(of, _) => loops_round(of),
-        Stream::Drop(of, _) => loops_round(of),
-        Stream::TakeWhile(of, _) => loops_round(of),
-        Stream::Scan { of, .. } => loops_round(of),
-        Stream::FlatMap(of, inner) => loops_round(of) + loops_round(inner),
-        Stream::Zip(left, _) => loops_round(left),
+        Stream::Map(of, _) => loops_around(of),
+        Stream::Filter(of, _) => loops_around(of),
+        Stream::Take(of, _) => loops_around(of),
+        Stream::Drop(of, _) => loops_around(of),
+        Stream::TakeWhile(of, _) => loops_around(of),
+        Stream::Scan { of, .. } => loops_around(of),
+        Stream::FlatMap(of, inner) => loops_around(of) + loops_around(inner),
+        Stream::Zip(left, _) => loops_around(left),
     }
 }
 
 fn stream_nest(s: &Stream) -> u64
-    requires { stream_nest (pipe_of s.now) ≤ 128 }
+    requires { stream_nest (pipe_of s.now) ≤ MOST_OPERATORS }
     ensures { result ≡ stream_nest (pipe_of s.now) }
 {
     match s {
@@ -226,61 +267,7 @@ fn stream_nest(s: &Stream) -> u64
         Stream::Drop(of, _) => stream_nest(of),
         Stream::TakeWhile(of, _) => stream_nest(of),
         Stream::Scan { of, .. } => stream_nest(of),
-        Stream::FlatMap(of, inner) => stream_nest(of).max(loops_round(of) + stream_nest(inner)),
-        Stream::Zip(left, right) => stream_nest(left).max(loops_round(left) + arm_loop(right)),
-    }
-}
-
-#[tactic(auto, using(crate::proofs::Limits::node_steps))]
-fn row_nodes(row: &Exprs) -> u64
-    requires { row_nodes (terms_of row.now) ≤ 8192 }
-    ensures { result ≡ row_nodes (terms_of row.now) }
-{
-    let mut sum = 0u64;
-    for i in 0..row.len() {
-        sum += term_nodes(row.get(i));
-    }
-    sum
-}
-
-#[tactic(auto, using(crate::proofs::Limits::depth_steps))]
-fn row_depth(row: &Exprs) -> u64
-    requires { row_depth (terms_of row.now) ≤ 200 }
-    ensures { result ≡ row_depth (terms_of row.now) }
-{
-    let mut most = 0u64;
-    for i in 0..row.len() {
-        most = most.max(term_depth(row.get(i)));
-    }
-    most
-}
-
-fn term_nodes(e: &Expr) -> u64
-    requires { term_nodes (term_of e.now) ≤ 8192 }
-    ensures { result ≡ term_nodes (term_of e.now) }
-{
-    match e {
-        Expr::Lit(_) | Expr::Truth(_) | Expr::Var(_) | Expr::Param(_) | Expr::Len(_) => 1,
-        Expr::Neg(a) => term_nodes(a) + 1,
-        Expr::Not(a) => term_nodes(a) + 1,
-        Expr::Bin(_, a, b) => term_nodes(a) + term_nodes(b) + 1,
-        Expr::And(a, b) => term_nodes(a) + term_nodes(b) + 1,
-        Expr::Or(a, b) => term_nodes(a) + term_nodes(b) + 1,
-        Expr::If(c, a, b) => term_nodes(c) + term_nodes(a) + term_nodes(b) + 1,
-    }
-}
-
-fn term_depth(e: &Expr) -> u64
-    requires { term_depth (term_of e.now) ≤ 200 }
-    ensures { result ≡ term_depth (term_of e.now) }
-{
-    match e {
-        Expr::Lit(_) | Expr::Truth(_) | Expr::Var(_) | Expr::Param(_) | Expr::Len(_) => 1,
-        Expr::Neg(a) => term_depth(a) + 1,
-        Expr::Not(a) => term_depth(a) + 1,
-        Expr::Bin(_, a, b) => term_depth(a).max(term_depth(b)) + 1,
-        Expr::And(a, b) => term_depth(a).max(term_depth(b)) + 1,
-        Expr::Or(a, b) => term_depth(a).max(term_depth(b)) + 1,
-        Expr::If(c, a, b) => term_depth(c).max(term_depth(a).max(term_depth(b))) + 1,
+        Stream::FlatMap(of, inner) => stream_nest(of).max(loops_around(of) + stream_nest(inner)),
+        Stream::Zip(left, right) => stream_nest(left).max(loops_around(left) + arm_loop(right)),
     }
 }

@@ -1,7 +1,7 @@
 use strm_num::{List, Word};
 
 /// What a run writes: a word of a row, or the end of a row.
-#[derive(Clone, Copy, Debug, PartialEq, Eq)]
+#[derive(Clone, Copy)]
 pub enum Event {
     Emit(Word),
     EndRow,

@@ -4,7 +4,7 @@ use strm_num::{List, Word};
 pub type Words = List<Word>;
 
 /// What an input is declared as.
-#[derive(Clone, Copy, Debug, PartialEq, Eq)]
+#[derive(Clone, Copy, Debug)]
 pub enum InputKind {
     Array,
     Int,
@@ -14,7 +14,7 @@ pub enum InputKind {
 pub type InputKinds = List<InputKind>;
 
 /// What an input holds.
-#[derive(Debug, Drop)]
+#[derive(Drop)]
 pub enum Input {
     Array(Words),
     Int(Word),

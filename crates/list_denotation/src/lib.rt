@@ -1,11 +1,12 @@
 //! Typed stream pipelines and what they mean on lists.
 //!
-//! It stands on strm_num. The types here are the terms that a checked pipeline text becomes, and
+//! It depends on strm_num. The types here are the terms that a checked pipeline text becomes, and
 //! the inputs and events of a run. Their meaning stands in `specs/`, on plain copies of the terms:
 //! the value of an expression, the rows of a stream at a bound, the observation of a program, its
 //! work, its counts, the kinds of its rows, and when one observation is as far as another. The
 //! crates above prove themselves against those definitions. `Program` keeps that it is typed and
-//! within the limits, and the counts and `row_kinds` are what their definitions say of it.
+//! within the limits, and that its numbers are words; the counts and `row_kinds` are what their
+//! definitions say of it. `no_observation_is_stuck` and the other laws are of definitions alone.
 #![tactic(auto)]
 
 mod counts;
@@ -13,11 +14,10 @@ mod event;
 mod expr;
 mod input;
 mod kind;
+mod laws;
 mod program;
 mod stream;
 mod terminal;
-#[cfg(test)]
-mod tests;
 mod typing;
 
 pub use counts::{depth, loops_of, most_stmts, most_vars, nest_of, nodes, ops};
@@ -25,6 +25,10 @@ pub use event::{Event, Events};
 pub use expr::{BinOp, Expr, Exprs};
 pub use input::{Input, InputKind, InputKinds, Inputs, Words};
 pub use kind::{Kind, Kinds};
+pub use laws::{
+    far_is_an_order, no_observation_is_stuck, observations_grow, typed_expressions_read_the_scope,
+    typed_programs_keep_limits,
+};
 pub use program::Program;
 pub use stream::Stream;
 pub use terminal::Terminal;

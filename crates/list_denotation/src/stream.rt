@@ -2,7 +2,7 @@ use crate::expr::{Expr, Exprs};
 
 /// A stream of rows. Each expression has the bound words of the stream's own scope and then those
 /// that its form binds: the row of the stream before it, the state, or the state and then the row.
-#[derive(Debug, Drop)]
+#[derive(Drop)]
 pub enum Stream {
     /// The items of the array input at this position.
     Array(u32),

@@ -1,6 +1,7 @@
-ghost use Rattle.std.specs.Prelude.{◌≡◌, ◌++◌, IsSome, IsTrue, IfOk};
+ghost use Rattle.std.specs.Prelude.{◌≡◌, IsSome, IsTrue, IfOk, OnOk, Some};
 ghost use Rattle.list_denotation.specs.Copies.{term_of, terms_of, pipe_of, finish_of};
-ghost use Rattle.list_denotation.specs.Typing.{kind_of, kinds_of, has_kinds, stream_kinds, finish_kinds, program_kinds};
+ghost use Rattle.list_denotation.specs.Typing.{kind_of, kinds_of, has_kinds};
+ghost use Rattle.list_denotation.specs.Typing.{append_kinds, stream_kinds, program_kinds};
 
 use crate::expr::{BinOp, Expr, Exprs};
 use crate::input::InputKinds;
@@ -16,103 +17,83 @@ use strm_num::{List, NoMemory};
 /// memory is refused.
 #[tactic(auto, using(crate::proofs::TypedKinds::program_steps))]
 pub fn row_kinds(alloc: Global, p: &Program) -> Result<Kinds, NoMemory>
-    ensures { IfOk result (λ kinds. program_kinds p.now.inputs (pipe_of p.now.stream) (finish_of p.now.terminal) ≡ Some kinds) }
+    ensures { IfOk result (λ kinds.
+        program_kinds p.now.inputs (pipe_of p.now.stream) (finish_of p.now.terminal) ≡ Some kinds) }
 {
     let scope = List::new(alloc);
-    let row = stream_kinds(alloc, &p.inputs, &scope, &p.stream)?;
-    finish_kinds(alloc, &p.inputs, &p.terminal, row)
-}
-
-/// The kinds of the row that the terminal gives after rows of these kinds.
-#[tactic(auto, using(crate::proofs::TypedKinds::finish_steps))]
-fn finish_kinds(
-    alloc: Global,
-    inputs: &InputKinds,
-    t: &Terminal,
-    row: Kinds,
-) -> Result<Kinds, NoMemory>
-    requires { IsTrue (has_kinds (finish_kinds inputs.now (finish_of t.now) row)) }
-    ensures { IfOk result (λ kinds. finish_kinds inputs.now (finish_of t.now) row ≡ Some kinds) }
-{
-    match t {
+    let mut kinds = List::new(alloc);
+    match &p.terminal {
         Terminal::Fold { seed, .. } => {
-            let scope = List::new(alloc);
-            kinds_of(alloc, inputs, &scope, seed)
+            push_row(&p.inputs, &scope, seed, &mut kinds)?;
+            Ok(kinds)
         }
-        Terminal::Print => Ok(row),
+        Terminal::Print => {
+            push_stream(alloc, &p.inputs, &scope, &p.stream, &mut kinds)?;
+            Ok(kinds)
+        }
     }
 }
 
-/// The kinds of a stream's rows, in the scope of bound words of these kinds.
+/// Appends the kinds of a stream's rows, in the scope of bound words of these kinds. After a refusal
+/// some of them may have been appended.
 #[tactic(auto, using(crate::proofs::TypedKinds::stream_steps))]
-fn stream_kinds(
+fn push_stream(
     alloc: Global,
     inputs: &InputKinds,
     scope: &Kinds,
     s: &Stream,
-) -> Result<Kinds, NoMemory>
+    kinds: &mut Kinds,
+) -> Result<(), NoMemory>
     requires { IsTrue (has_kinds (stream_kinds inputs.now scope.now (pipe_of s.now))) }
-    ensures { IfOk result (λ kinds. stream_kinds inputs.now scope.now (pipe_of s.now) ≡ Some kinds) }
+    ensures { OnOk result (append_kinds kinds.old
+        (stream_kinds inputs.now scope.now (pipe_of s.now)) ≡ Some kinds.new) }
 {
     match s {
-        Stream::Array(_) | Stream::Range(_, _) => List::from_slice(alloc, &[Kind::Int]),
+        Stream::Array(_) | Stream::Range(_, _) => kinds.push(Kind::Int),
         Stream::Unfold { seed, item, .. } => {
-            let state = kinds_of(alloc, inputs, scope, seed)?;
-            bound_kinds(alloc, inputs, scope, &state, item)
+            let mut bound = List::from_slice(alloc, scope.as_slice())?;
+            push_row(inputs, scope, seed, &mut bound)?;
+            push_row(inputs, &bound, item, kinds)
         }
         Stream::Map(of, body) => {
-            let row = stream_kinds(alloc, inputs, scope, of)?;
-            bound_kinds(alloc, inputs, scope, &row, body)
+            let mut bound = List::from_slice(alloc, scope.as_slice())?;
+            push_stream(alloc, inputs, scope, of, &mut bound)?;
+            push_row(inputs, &bound, body, kinds)
         }
-        Stream::Filter(of, _) => stream_kinds(alloc, inputs, scope, of),
-        Stream::Take(of, _) => stream_kinds(alloc, inputs, scope, of),
-        Stream::Drop(of, _) => stream_kinds(alloc, inputs, scope, of),
-        Stream::TakeWhile(of, _) => stream_kinds(alloc, inputs, scope, of),
-        Stream::Scan { seed, .. } => kinds_of(alloc, inputs, scope, seed),
+        Stream::Filter(of, _) => push_stream(alloc, inputs, scope, of, kinds),
+        Stream::Take(of, _) => push_stream(alloc, inputs, scope, of, kinds),
+        Stream::Drop(of, _) => push_stream(alloc, inputs, scope, of, kinds),
+        Stream::TakeWhile(of, _) => push_stream(alloc, inputs, scope, of, kinds),
+        Stream::Scan { seed, .. } => push_row(inputs, scope, seed, kinds),
         Stream::FlatMap(of, inner) => {
-            let row = stream_kinds(alloc, inputs, scope, of)?;
-            let bound = joined(alloc, scope, &row)?;
-            stream_kinds(alloc, inputs, &bound, inner)
+            let mut bound = List::from_slice(alloc, scope.as_slice())?;
+            push_stream(alloc, inputs, scope, of, &mut bound)?;
+            push_stream(alloc, inputs, &bound, inner, kinds)
         }
         Stream::Zip(left, right) => {
-            let left = stream_kinds(alloc, inputs, scope, left)?;
-            let right = stream_kinds(alloc, inputs, scope, right)?;
-            joined(alloc, &left, &right)
+            push_stream(alloc, inputs, scope, left, kinds)?;
+            push_stream(alloc, inputs, scope, right, kinds)
         }
     }
 }
 
-/// The kinds of a row of expressions under a row that is bound, in the scope of bound words of these kinds.
-fn bound_kinds(
-    alloc: Global,
-    inputs: &InputKinds,
-    scope: &Kinds,
-    row: &Kinds,
-    body: &Exprs,
-) -> Result<Kinds, NoMemory>
-    requires { IsTrue (has_kinds (kinds_of inputs.now (scope.now ++ row.now) (terms_of body.now))) }
-    ensures { IfOk result (λ kinds. kinds_of inputs.now (scope.now ++ row.now) (terms_of body.now) ≡ Some kinds) }
-{
-    let bound = joined(alloc, scope, row)?;
-    kinds_of(alloc, inputs, &bound, body)
-}
-
-/// The kinds of a row of expressions.
+/// Appends the kinds of a row of expressions, in the scope of bound words of these kinds. After a
+/// refusal some of them may have been appended.
 #[tactic(auto, using(crate::proofs::TypedKinds::row_steps))]
-fn kinds_of(
-    alloc: Global,
+fn push_row(
     inputs: &InputKinds,
     scope: &Kinds,
     row: &Exprs,
-) -> Result<Kinds, NoMemory>
+    kinds: &mut Kinds,
+) -> Result<(), NoMemory>
     requires { IsTrue (has_kinds (kinds_of inputs.now scope.now (terms_of row.now))) }
-    ensures { IfOk result (λ kinds. kinds_of inputs.now scope.now (terms_of row.now) ≡ Some kinds) }
+    ensures { OnOk result (append_kinds kinds.old
+        (kinds_of inputs.now scope.now (terms_of row.now)) ≡ Some kinds.new) }
 {
-    let mut kinds = List::new(alloc);
     for i in 0..row.len() {
         kinds.push(kind_of(inputs, scope, row.get(i)))?;
     }
-    Ok(kinds)
+    Ok(())
 }
 
 /// The kind of an expression, in the scope of bound words of these kinds.
@@ -131,15 +112,4 @@ fn kind_of(inputs: &InputKinds, scope: &Kinds, e: &Expr) -> Kind
         },
         Expr::If(_, a, _) => kind_of(inputs, scope, a),
     }
-}
-
-/// One list of kinds and then another.
-fn joined(alloc: Global, first: &Kinds, second: &Kinds) -> Result<Kinds, NoMemory>
-    ensures { IfOk result (λ kinds. kinds ≡ first.now ++ second.now) }
-{
-    let mut kinds = List::from_slice(alloc, first.as_slice())?;
-    for kind in second.as_slice() {
-        kinds.push(*kind)?;
-    }
-    Ok(kinds)
 }

@@ -10,12 +10,12 @@ use Rattle.list_denotation.specs.Values.{Got, Is, Fails}
 use Rattle.loop_ir.specs.declared.syntax.Verdict.{Verdict}
 use Rattle.loop_ir.specs.declared.syntax.Verdict.TheVariants as verdict
 use Rattle.loop_ir.specs.Statements.{Statement, Set, Read, If, Loop, Emit, EndRow, Ret, Block, Nil, Cons, Routine}
-use Rattle.loop_ir.specs.Meaning.{Outcome, Runs, Over, after, then_do, on_value, on_test, spend, turns, item_of, operand_value, test_value, verdict_of, run_one, run, seen, meaning}
+use Rattle.loop_ir.specs.Meaning.{Outcome, Runs, Over, after, then_do, on_value, on_test, spend, turns, item_of, operand_value, test_value, verdict_of, run_one, run, seen_of, meaning}
 
 -- the events of an outcome begin with these
 pub record Extends (before : List Event) (u : Outcome) : Type 0 where
   pub rest : List Event
-  pub is : (seen u).events ≡ before ++ rest
+  pub is : (seen_of u).events ≡ before ++ rest
 
 -- u is what o may be with one more turn: the same with that turn left, or, where o is still going, any outcome
 -- whose events begin with its own
@@ -26,10 +26,10 @@ Ahead (Over events Done) u = u ≡ Over events Done
 Ahead (Over events (Failed f)) u = u ≡ Over events (Failed f)
 
 from_nothing : (u : Outcome) → Extends [] u
-from_nothing u = record { rest = (seen u).events; is = refl }
+from_nothing u = record { rest = (seen_of u).events; is = refl }
 
 -- ---- one lemma for each combinator
-events_after : (before : List Event) (u : Outcome) → (seen (after before u)).events ≡ before ++ (seen u).events
+events_after : (before : List Event) (u : Outcome) → (seen_of (after before u)).events ≡ before ++ (seen_of u).events
 events_after before (Runs events env left) = refl
 events_after before (Over events standing) = refl
 
@@ -45,7 +45,7 @@ after_ahead before (Over events (Failed f)) u h = ap (after before) h
 then_extends : (before : List Event) (u : Outcome) (go : List ℕ → ℕ → Outcome) → Extends before u → Extends before (then_do u go)
 then_extends before (Over events standing) go h = h
 then_extends before (Runs events env left) go h =
-    let more = (seen (go env left)).events in
+    let more = (seen_of (go env left)).events in
     record {
       rest = h.rest ++ more;
       is = events_after events (go env left) ∙ ap (λ e. e ++ more) h.is ∙ append_assoc before h.rest more;
@@ -102,11 +102,11 @@ module _ (inputs : List Input) where
         then_ahead (run_one inputs s env left) (run_one inputs s env (suc left)) (run inputs ss) (run inputs ss) (block_ahead ss) (one_ahead s env left)
 
 -- ---- what is seen
-far_ahead : (o u : Outcome) → Ahead o u → Far (seen o) (seen u)
-far_ahead (Runs events env left) u h = inl (sym (ap seen h))
+far_ahead : (o u : Outcome) → Ahead o u → Far (seen_of o) (seen_of u)
+far_ahead (Runs events env left) u h = inl (sym (ap seen_of h))
 far_ahead (Over events Going) u h = inr (record { going = refl; rest = h.rest; prefix = h.is })
-far_ahead (Over events Done) u h = inl (sym (ap seen h))
-far_ahead (Over events (Failed f)) u h = inl (sym (ap seen h))
+far_ahead (Over events Done) u h = inl (sym (ap seen_of h))
+far_ahead (Over events (Failed f)) u h = inl (sym (ap seen_of h))
 
 pub grows : (q : Routine) (inputs : List Input) (m : ℕ) → Far (meaning q inputs m) (meaning q inputs (m + 1))
 grows q inputs m =

@@ -48,7 +48,7 @@ pub block_append : (ss more : List Stmt) → block_of (ss ++ more) ≡ join (blo
 block_append [] more = refl
 block_append (x ∷ ss) more = ap (λ b. Cons (statement_of x) b) (block_append ss more)
 
--- a statement in front of what is still to come
+-- a statement before what is still to come
 pub push_front : (ss : List Stmt) (s : Stmt) (t : Statement) (rest : Block) → statement_of s ≡ t → join (block_of (ss ++ s ∷ [])) rest ≡ join (block_of ss) (Cons t rest)
 push_front ss s t rest e = ap (λ b. join b rest) (block_push ss s) ∙ join_join (block_of ss) (Cons (statement_of s) Nil) rest ∙ ap (λ u. join (block_of ss) (Cons u rest)) e
 

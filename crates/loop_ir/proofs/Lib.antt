@@ -2,6 +2,5 @@ pub mod Joins
 pub mod JoinedBlocks
 pub mod Copies
 pub mod Ahead
-pub mod LoopEnds
 pub mod CountsToTwo
 pub mod BinaryDigits

@@ -1,51 +1,48 @@
 -- The counts of a loop program.
 use Rattle.std.specs.Prelude.{ℕ, ◌+◌, ◌-◌, ◌^◌, min, max}
+use Rattle.loop_ir.specs.declared.counts.Measure.{Measure}
+use Rattle.loop_ir.specs.declared.counts.Measure.TheVariants.{Statements, Loops, Nesting}
 use Rattle.loop_ir.specs.Statements.{Statement, Set, Read, If, Loop, Emit, EndRow, Ret, Block, Nil, Cons}
 
-abbrev mutual
-  pub statement_count : Statement → ℕ
-  statement_count (Set v w) = 1
-  statement_count (Read v a w) = 1
-  statement_count (If t a b) = block_count a + block_count b + 1
-  statement_count (Loop t body) = block_count body + 1
-  statement_count (Emit w) = 1
-  statement_count EndRow = 1
-  statement_count (Ret v) = 1
+-- what is counted of a statement that is no loop, where so much is counted of its parts
+abbrev pub plain_count : Measure → ℕ → ℕ
+plain_count Statements n = n + 1
+plain_count Loops n = n
+plain_count Nesting n = n
 
-  -- all statements, also those inside others
-  pub block_count : Block → ℕ
-  block_count Nil = 0
-  block_count (Cons s ss) = statement_count s + block_count ss
+-- what is counted of statements beside one another
+abbrev pub joint_count : Measure → ℕ → ℕ → ℕ
+joint_count Statements m n = m + n
+joint_count Loops m n = m + n
+joint_count Nesting m n = max m n
 
-abbrev mutual
-  pub statement_loops : Statement → ℕ
-  statement_loops (Set v w) = 0
-  statement_loops (Read v a w) = 0
-  statement_loops (If t a b) = block_loops a + block_loops b
-  statement_loops (Loop t body) = block_loops body + 1
-  statement_loops (Emit w) = 0
-  statement_loops EndRow = 0
-  statement_loops (Ret v) = 0
+-- a loop adds 1 to what is counted of its body, whatever is counted
+module _ (what : Measure) where
+  abbrev mutual
+    pub statement_measure : Statement → ℕ
+    statement_measure (Set v w) = plain_count what 0
+    statement_measure (Read v a w) = plain_count what 0
+    statement_measure (If t a b) = plain_count what (joint_count what (block_measure a) (block_measure b))
+    statement_measure (Loop t body) = block_measure body + 1
+    statement_measure (Emit w) = plain_count what 0
+    statement_measure EndRow = plain_count what 0
+    statement_measure (Ret v) = plain_count what 0
 
-  -- the loops
-  pub block_loops : Block → ℕ
-  block_loops Nil = 0
-  block_loops (Cons s ss) = statement_loops s + block_loops ss
+    pub block_measure : Block → ℕ
+    block_measure Nil = 0
+    block_measure (Cons s ss) = joint_count what (statement_measure s) (block_measure ss)
 
-abbrev mutual
-  pub statement_nest : Statement → ℕ
-  statement_nest (Set v w) = 0
-  statement_nest (Read v a w) = 0
-  statement_nest (If t a b) = max (block_nest a) (block_nest b)
-  statement_nest (Loop t body) = block_nest body + 1
-  statement_nest (Emit w) = 0
-  statement_nest EndRow = 0
-  statement_nest (Ret v) = 0
+-- all statements, also those inside others
+abbrev pub block_count : Block → ℕ
+block_count = block_measure Statements
 
-  -- the most loops inside one another
-  pub block_nest : Block → ℕ
-  block_nest Nil = 0
-  block_nest (Cons s ss) = max (statement_nest s) (block_nest ss)
+-- the loops
+abbrev pub block_loops : Block → ℕ
+block_loops = block_measure Loops
+
+-- the most loops inside one another
+abbrev pub block_nest : Block → ℕ
+block_nest = block_measure Nesting
 
 -- a count as a word: at most 2 ^ 64 - 1
 abbrev pub up_to_most : ℕ → ℕ

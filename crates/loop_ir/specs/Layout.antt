@@ -30,7 +30,7 @@ test_text (Both a b) = codes "(" ++ test_text a ++ codes " && " ++ test_text b +
 test_text (Either a b) = codes "(" ++ test_text a ++ codes " || " ++ test_text b ++ codes ")"
 test_text (Not a) = codes "(!" ++ test_text a ++ codes ")"
 
--- the front of a line
+-- the blanks before a line
 abbrev pub indent : ℕ → List ℕ
 indent blanks = replicate blanks 32
 

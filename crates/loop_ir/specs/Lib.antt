@@ -1,6 +1,9 @@
 pub mod Statements
 pub mod StatementCopies
+pub mod Leaves
 pub mod DeclaredNames
+pub mod Constants
+pub mod WellFormed
 pub mod Routines
 pub mod Counts
 pub mod Meaning

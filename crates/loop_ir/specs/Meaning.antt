@@ -5,7 +5,7 @@ use Rattle.list_denotation.specs.declared.event.Event.{Event}
 use Rattle.list_denotation.specs.declared.event.Event.TheVariants as event
 use Rattle.list_denotation.specs.declared.input.Input.{Input}
 use Rattle.list_denotation.specs.Inputs.{items_in, word_in}
-use Rattle.list_denotation.specs.Values.{Trap, Stuck, Got, Is, Fails, with_value}
+use Rattle.list_denotation.specs.Values.{Trap, Stuck, Got, Is, Fails, with_value, unless_zero}
 use Rattle.list_denotation.specs.Observation.{Standing, Done, Going, Failed, Seen}
 use Rattle.loop_ir.specs.declared.syntax.WOp.{WOp}
 use Rattle.loop_ir.specs.declared.syntax.WOp.TheVariants as op
@@ -13,18 +13,13 @@ use Rattle.loop_ir.specs.declared.syntax.Verdict.{Verdict}
 use Rattle.loop_ir.specs.declared.syntax.Verdict.TheVariants as verdict
 use Rattle.loop_ir.specs.Statements.{Operand, Const, Var, Len, Int, Bin, Test, Less, Same, Both, Either, Not, Statement, Set, Read, If, Loop, Emit, EndRow, Ret, Block, Nil, Cons, Routine}
 
--- an unsigned quotient or remainder; a zero divisor is undefined
-abbrev pub unless_zero : ℕ → ℕ → Got ℕ
-unless_zero zero q = Fails Stuck
-unless_zero (suc y) q = Is q
-
--- an operation on words
+-- an operation on words, unsigned; a zero divisor is undefined
 abbrev pub word_operation : WOp → ℕ → ℕ → Got ℕ
 word_operation op.Add x y = Is (sum_of x y)
 word_operation op.Sub x y = Is (difference_of x y)
 word_operation op.Mul x y = Is (product_of x y)
-word_operation op.Div x y = unless_zero y (x / y)
-word_operation op.Rem x y = unless_zero y (x % y)
+word_operation op.Div x y = unless_zero Stuck y (x / y)
+word_operation op.Rem x y = unless_zero Stuck y (x % y)
 word_operation op.Xor x y = Is (bit_xor x y)
 
 -- an item of an array; to read outside of it is undefined
@@ -33,7 +28,7 @@ item_of (Some x) = Is x
 item_of None = Fails Stuck
 
 module _ (inputs : List Input) where
-  -- the value of a word over the variables
+  -- the value of an operand over the variables
   abbrev pub operand_value : Operand → List ℕ → Got ℕ
   operand_value (Const n) env = Is n
   operand_value (Var v) env = Is (slice_index env v)
@@ -109,10 +104,10 @@ module _ (inputs : List Input) where
     run (Cons s ss) env left = then_do (run_one s env left) (run ss)
 
 -- a run that comes to its end is done
-abbrev pub seen : Outcome → Seen
-seen (Runs events env left) = record { events = events; standing = Done }
-seen (Over events standing) = record { events = events; standing = standing }
+abbrev pub seen_of : Outcome → Seen
+seen_of (Runs events env left) = record { events = events; standing = Done }
+seen_of (Over events standing) = record { events = events; standing = standing }
 
 -- what is seen of a loop program that has m turns; its variables start at 0
 abbrev pub meaning : Routine → List Input → ℕ → Seen
-meaning q inputs m = seen (run inputs q.body (replicate q.vars 0) m)
+meaning q inputs m = seen_of (run inputs q.body (replicate q.vars 0) m)

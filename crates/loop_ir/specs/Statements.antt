@@ -4,12 +4,12 @@ use Rattle.list_denotation.specs.declared.input.InputKind.{InputKind}
 use Rattle.loop_ir.specs.declared.syntax.WOp.{WOp}
 use Rattle.loop_ir.specs.declared.syntax.Verdict.{Verdict}
 
--- a word
+-- an operand
 pub data Operand : Type 0 where
   Const Var Len Int : ℕ → Operand
   Bin : WOp → Operand → Operand → Operand
 
--- a test of words
+-- a test of operands
 pub data Test : Type 0 where
   Less Same : Operand → Operand → Test
   Both Either : Test → Test → Test

@@ -3,7 +3,8 @@
 ghost use Rattle.std.specs.Prelude.{◌≡◌};
 ghost use Rattle.loop_ir.specs.Routines.{routine_of};
 ghost use Rattle.loop_ir.specs.StatementCopies.{statement_of, block_of};
-ghost use Rattle.loop_ir.specs.Counts.{statement_loops, block_loops, statement_nest, block_nest, statement_count, block_count, up_to_most};
+ghost use Rattle.loop_ir.specs.Counts.{plain_count, joint_count, statement_measure, block_measure};
+ghost use Rattle.loop_ir.specs.Counts.{block_count, block_loops, block_nest, up_to_most};
 
 use crate::program::Prog;
 use crate::syntax::Stmt;
@@ -19,87 +20,73 @@ pub fn vars(q: &Prog) -> u64
 pub fn loops(q: &Prog) -> u64
     ensures { result ≡ up_to_most (block_loops (routine_of q.now).body) }
 {
-    block_loops(q.body.as_slice())
-}
-
-#[cycle(loops)]
-fn block_loops(body: &[Stmt]) -> u64
-    ensures { result ≡ up_to_most (block_loops (block_of body.now)) }
-{
-    let mut n: u64 = 0;
-    for s in body {
-        n = n.saturating_add(statement_loops(s));
-    }
-    n
-}
-
-#[cycle(loops)]
-fn statement_loops(s: &Stmt) -> u64
-    ensures { result ≡ up_to_most (statement_loops (statement_of s.now)) }
-{
-    match s {
-        Stmt::If(_, a, b) => block_loops(a.as_slice()).saturating_add(block_loops(b.as_slice())),
-        Stmt::Loop(_, body) => block_loops(body.as_slice()).saturating_add(1),
-        _ => 0,
-    }
+    block_measure(Measure::Loops, q.body.as_slice())
 }
 
 /// The most loops of a program inside one another: 0 where there is no loop.
 pub fn nest(q: &Prog) -> u64
     ensures { result ≡ up_to_most (block_nest (routine_of q.now).body) }
 {
-    block_nest(q.body.as_slice())
-}
-
-#[cycle(nests)]
-fn block_nest(body: &[Stmt]) -> u64
-    ensures { result ≡ up_to_most (block_nest (block_of body.now)) }
-{
-    let mut n: u64 = 0;
-    for s in body {
-        n = n.max(statement_nest(s));
-    }
-    n
-}
-
-#[cycle(nests)]
-fn statement_nest(s: &Stmt) -> u64
-    ensures { result ≡ up_to_most (statement_nest (statement_of s.now)) }
-{
-    match s {
-        Stmt::If(_, a, b) => block_nest(a.as_slice()).max(block_nest(b.as_slice())),
-        Stmt::Loop(_, body) => block_nest(body.as_slice()).saturating_add(1),
-        _ => 0,
-    }
+    block_measure(Measure::Nesting, q.body.as_slice())
 }
 
 /// All statements of a program, also those inside others.
 pub fn stmts(q: &Prog) -> u64
     ensures { result ≡ up_to_most (block_count (routine_of q.now).body) }
 {
-    block_count(q.body.as_slice())
+    block_measure(Measure::Statements, q.body.as_slice())
 }
 
-#[cycle(statements)]
-fn block_count(body: &[Stmt]) -> u64
-    ensures { result ≡ up_to_most (block_count (block_of body.now)) }
+/// What is counted of statements: all of them, the loops, or the most loops inside one another.
+#[derive(Clone, Copy)]
+enum Measure {
+    Statements,
+    Loops,
+    Nesting,
+}
+
+/// The count of a statement that is no loop, where its parts count so much.
+fn plain_count(what: Measure, parts: u64) -> u64
+    ensures { result ≡ up_to_most (plain_count what parts) }
+{
+    match what {
+        Measure::Statements => parts.saturating_add(1),
+        Measure::Loops | Measure::Nesting => parts,
+    }
+}
+
+/// The count of statements beside one another.
+fn joint_count(what: Measure, first: u64, second: u64) -> u64
+    ensures { result ≡ up_to_most (joint_count what first second) }
+{
+    match what {
+        Measure::Statements | Measure::Loops => first.saturating_add(second),
+        Measure::Nesting => first.max(second),
+    }
+}
+
+#[cycle(measures)]
+fn block_measure(what: Measure, body: &[Stmt]) -> u64
+    ensures { result ≡ up_to_most (block_measure what (block_of body.now)) }
 {
     let mut n: u64 = 0;
     for s in body {
-        n = n.saturating_add(statement_count(s));
+        n = joint_count(what, n, statement_measure(what, s));
     }
     n
 }
 
-#[cycle(statements)]
-fn statement_count(s: &Stmt) -> u64
-    ensures { result ≡ up_to_most (statement_count (statement_of s.now)) }
+#[cycle(measures)]
+fn statement_measure(what: Measure, s: &Stmt) -> u64
+    ensures { result ≡ up_to_most (statement_measure what (statement_of s.now)) }
 {
     match s {
-        Stmt::If(_, a, b) => block_count(a.as_slice())
-            .saturating_add(block_count(b.as_slice()))
-            .saturating_add(1),
-        Stmt::Loop(_, body) => block_count(body.as_slice()).saturating_add(1),
-        _ => 1,
+        Stmt::If(_, a, b) => {
+            let first = block_measure(what, a.as_slice());
+            let second = block_measure(what, b.as_slice());
+            plain_count(what, joint_count(what, first, second))
+        }
+        Stmt::Loop(_, body) => block_measure(what, body.as_slice()).saturating_add(1),
+        _ => plain_count(what, 0),
     }
 }

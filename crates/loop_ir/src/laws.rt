@@ -9,5 +9,6 @@ ghost use Rattle.loop_ir.specs.Statements.{Routine};
 /// A run with one more turn goes at least as far: it is the same, or the run with fewer turns was
 /// still going and what it had written begins what the other one writes.
 pub fn runs_grow()
-    ensures { (q : Routine) (inputs : List Input) (m : ℕ) → Far (meaning q inputs m) (meaning q inputs (m + 1)) }
+    ensures { (q : Routine) (inputs : List Input) (m : ℕ)
+        → Far (meaning q inputs m) (meaning q inputs (m + 1)) }
 {}

@@ -1,8 +1,9 @@
 //! Loop programs: C functions of variables, `while`, `if`, `break`, `return` and two output macros.
 //!
-//! It stands on strm_num and list_denotation. The types here are the programs that pipelines become;
-//! `Prog` keeps that each name in it is declared. Their meaning stands in `specs/Meaning` and their
-//! text in `specs/Layout`, on plain copies of the statements; every later crate proves itself against
+//! It depends on strm_num and list_denotation. The types here are the programs that pipelines
+//! become; `Prog` keeps that it is well formed, by `specs/WellFormed`: few parameters, declared
+//! names, and constants that are words. Their meaning stands in `specs/Meaning` and their text in
+//! `specs/Layout`, on plain copies of the statements; every later crate proves itself against
 //! these. The four counts are what `specs/Counts` says of a program, up to 2^64 - 1. `runs_grow` is
 //! the law that a run with more turns goes at least as far.
 #![tactic(auto)]
@@ -11,8 +12,6 @@ pub mod counts;
 mod laws;
 mod program;
 mod syntax;
-#[cfg(test)]
-mod tests;
 
 pub use laws::runs_grow;
 pub use list_denotation::{Event, Events, Input, InputKind, InputKinds, Inputs, Words};

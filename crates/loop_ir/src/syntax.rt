@@ -1,8 +1,8 @@
 use strm_num::{List, Word};
 
-/// The operators of words, all unsigned. `Add`, `Sub` and `Mul` are modulo 2^64, `Div` and `Rem` are
-/// undefined at a zero divisor, and `Xor` is bit by bit.
-#[derive(Clone, Copy, Debug, PartialEq, Eq)]
+/// The operators of words, all unsigned. `Add`, `Sub` and `Mul` are modulo 2^64, `Div` and `Rem`
+/// are undefined at a zero divisor, and `Xor` is bit by bit.
+#[derive(Clone, Copy)]
 pub enum WOp {
     Add,
     Sub,
@@ -12,10 +12,10 @@ pub enum WOp {
     Xor,
 }
 
-/// A word: a constant, a variable, the length of the array parameter or the int parameter at a
+/// An operand: a constant, a variable, the length of the array parameter or the int parameter at a
 /// position, or an operation. Its meaning is that of C's unsigned arithmetic on 64 bits (ISO/IEC
 /// 9899:2011, 6.2.5 and 6.5).
-#[derive(Debug, Drop)]
+#[derive(Drop)]
 pub enum W {
     Const(Word),
     Var(u32),
@@ -24,10 +24,10 @@ pub enum W {
     Bin(WOp, Box<W>, Box<W>),
 }
 
-/// A test of words, both unsigned: whether one is below the other, or they are the same. `Both` and
-/// `Either` look at their second part only where the first one doesn't decide (ISO/IEC 9899:2011,
-/// 6.5.13 and 6.5.14).
-#[derive(Debug, Drop)]
+/// A test of two operands, both unsigned: whether one is below the other, or they are the same.
+/// `Both` and `Either` look at their second part only where the first one doesn't decide (ISO/IEC
+/// 9899:2011, 6.5.13 and 6.5.14).
+#[derive(Drop)]
 pub enum T {
     Less(W, W),
     Same(W, W),
@@ -37,7 +37,7 @@ pub enum T {
 }
 
 /// How a program returns: `return 0` is `Done` and `return 1` is `Trap`.
-#[derive(Clone, Copy, Debug, PartialEq, Eq)]
+#[derive(Clone, Copy)]
 pub enum Verdict {
     Done,
     Trap,
@@ -45,11 +45,11 @@ pub enum Verdict {
 
 /// A statement.
 ///
-/// `Set(v, w)` sets variable v. `Read(v, a, w)` sets variable v to item w of the array parameter
-/// at position a. `If(t, a, b)` runs a where the test holds, and else b. `Loop(t, body)` runs its
-/// body again and again while the test holds. `Emit(w)` writes a word and `EndRow` the end of a row.
+/// `Set(v, w)` sets variable v. `Read(v, a, w)` sets variable v to item w of the array parameter at
+/// position a. `If(t, a, b)` runs a where the test holds, and else b. `Loop(t, body)` runs its body
+/// again and again while the test holds. `Emit(w)` writes a word and `EndRow` the end of a row.
 /// `Ret` ends the whole run.
-#[derive(Debug, Drop)]
+#[derive(Drop)]
 pub enum Stmt {
     Set(u32, W),
     Read(u32, u32, W),

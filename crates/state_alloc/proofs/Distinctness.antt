@@ -1,10 +1,10 @@
 -- Fresh variables differ from one another, from those of the words bound before, and from the
 -- temporaries.
 use Rattle.std.proofs.Common.{◌≡◌, ℕ, zero, suc, ◌+◌, ◌<◌, ◌≤◌, inl, inr, false, List, [], ◌∷◌, ◌++◌, arith, eqb}
-use Rattle.std.specs.Prelude.{All}
+use Rattle.std.specs.Prelude.{All, Contains}
 use Rattle.std.specs.List.{IsDistinct, AllByRecursion, range_with_len}
 use Rattle.std.proofs.lemmas.Bool.Decides.{eqb_tells}
-use Rattle.std.proofs.lemmas.List.Elements.{All-append, All-from_recursion, recursion_from_All}
+use Rattle.std.proofs.lemmas.List.Elements.{All-append, All-contains, All-from_recursion, recursion_from_All}
 use Rattle.state_alloc.specs.Layouts.{IsTemporary}
 use Rattle.state_alloc.proofs.Places.{all_variables}
 
@@ -38,3 +38,7 @@ stays_distinct rows first width distinct below = distinct_with_fresh rows first 
 pub no_temporary : (first_temp temps first width : ℕ) → first_temp + temps ≤ first → All (λ v. ¬ IsTemporary first_temp temps v) (range_with_len first width)
 no_temporary first_temp temps first width h =
     all_variables (λ v. ¬ IsTemporary first_temp temps v) first width (λ v low high temporary. omega (arith, temporary.1))
+
+-- what holds of the variables of all words holds of those of chosen ones
+pub chosen_all : (P : ℕ → Type 0) (rows chosen : List ℕ) → All (Contains rows) chosen → All P rows → All P chosen
+chosen_all P rows chosen among all k d within = All-contains P rows _ all (among k d within)

@@ -4,7 +4,7 @@ use Rattle.std.proofs.lemmas.Option.{slice_get_within, get_or_from_slice_get}
 use Rattle.std.proofs.lemmas.List.Elements.{All-append}
 use Rattle.std.proofs.lemmas.List.FromFn.{length-range_with_len, get_or-range_with_len}
 use Rattle.std.specs.List.{range_with_len}
-use Rattle.state_alloc.specs.Layouts.{IsLaidOut, IsWordVariable}
+use Rattle.state_alloc.specs.Layouts.{IsTemporary, IsWordVariable, IsLaidOut}
 
 -- the variable of a bound word was given out, and is no temporary
 pub word_variable : (rows : List ℕ) (first_temp temps next k v : ℕ) → IsLaidOut rows first_temp temps next → slice_get rows k ≡ Some v → IsWordVariable first_temp temps next v
@@ -32,3 +32,7 @@ bound_words rows first_temp temps next width few laid_out = record {
       (all_variables (IsWordVariable first_temp temps (next + width)) next width
       (λ v low high. record { below = high; apart = λ temporary. omega (arith, temporary.1, laid_out.temporaries) }));
 }
+
+-- no bound word stands in a temporary
+pub no_word_temporary : (rows : List ℕ) (first_temp temps next : ℕ) → IsLaidOut rows first_temp temps next → All (λ v. ¬ IsTemporary first_temp temps v) rows
+no_word_temporary rows first_temp temps next laid_out k d within = (laid_out.words k d within).apart

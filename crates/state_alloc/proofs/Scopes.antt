@@ -20,7 +20,7 @@ pushed_variable old rows new first width v next were is =
     is ∙ ap (λ ns. ns ++ v ∷ []) were ∙ append_assoc old (range_with_len first width) (v ∷ [])
     ∙ ap (λ n. old ++ (range_with_len first width ++ n ∷ [])) next ∙ behind
 
--- the words in front of those that are given up stay
+-- the words before those that are given up stay
 pub kept_words : (kept gone : List ℕ) (width : ℕ) → length gone ≡ width → take (length (kept ++ gone) - width) (kept ++ gone) ≡ kept
 kept_words kept gone width h =
     let n : length (kept ++ gone) - width ≡ length kept = omega (arith, length-append kept gone) in

@@ -1,4 +1,5 @@
-ghost use Rattle.std.specs.Prelude.{◌≡◌, ℕ, ◌+◌, ◌-◌, ◌<◌, ◌≤◌, ◌^◌, [], ◌∷◌, ◌++◌, length, take, slice_get, OnOk, OnErr, IfOk, Some};
+ghost use Rattle.std.specs.Prelude.{◌≡◌, ℕ, ◌+◌, ◌-◌, ◌<◌, ◌≤◌, ◌^◌, [], ◌∷◌, ◌++◌};
+ghost use Rattle.std.specs.Prelude.{length, take, slice_get, OnOk, OnErr, IfOk, Some};
 ghost use Rattle.std.specs.List.{range_with_len};
 ghost use Rattle.state_alloc.specs.Layouts.{IsLaidOut, IsWordVariable, IsFresh};
 
@@ -10,7 +11,7 @@ use strm_num::NoMemory;
 ///
 /// It keeps, in `laid_out`, that the temporaries are below `next`, and that the variable of each
 /// bound word is below `next` and is no temporary.
-#[derive(Debug, Drop)]
+#[derive(Drop)]
 pub struct Slots {
     /// Item `k` is the variable of word `k`, which fits 32 bits.
     pub rows: Words,
@@ -24,7 +25,8 @@ pub struct Slots {
 }
 
 impl Slots {
-    /// A scope without words, whose temporaries are the first `temps` variables. It takes no memory.
+    /// A scope without words, whose temporaries are the first `temps` variables. It takes no
+    /// memory.
     pub fn new(alloc: Global, temps: u32) -> Slots
         ensures rows { result.rows ≡ [] }
         ensures first_temp { result.first_temp ≡ 0 }
@@ -39,14 +41,48 @@ impl Slots {
         }
     }
 
-    /// Binds `width` more words to the variables from `next` on, and gives the first of these, which
-    /// is the old `next`. All words bound before and all temporaries stand in variables below it.
-    /// A refused bind changes nothing.
+    /// A scope without words, behind all variables that were given out, with the same temporaries.
+    /// It takes no memory.
+    pub fn empty_scope(&self, alloc: Global) -> Slots
+        ensures rows { result.rows ≡ [] }
+        ensures first_temp { result.first_temp ≡ self.now.first_temp }
+        ensures temps { result.temps ≡ self.now.temps }
+        ensures next { result.next ≡ self.now.next }
+    {
+        Slots {
+            rows: Words::new(alloc),
+            first_temp: self.first_temp,
+            temps: self.temps,
+            next: self.next,
+        }
+    }
+
+    /// Gives out `count` variables in which no word of the scope stands, as for the index of a
+    /// loop, and gives the first of these, which is the old `next`. All words bound before and all
+    /// temporaries stand in variables below it. It takes no memory.
+    pub fn reserve_variables(&mut self, count: u32) -> u32
+        requires { self.old.next + count < 2 ^ 32 }
+        ensures first { result ≡ self.old.next }
+        ensures fresh { IsFresh self.old.rows self.old.first_temp self.old.temps result }
+        ensures rows { self.new.rows ≡ self.old.rows }
+        ensures next { self.new.next ≡ self.old.next + count }
+        ensures first_temp { self.new.first_temp ≡ self.old.first_temp }
+        ensures temps { self.new.temps ≡ self.old.temps }
+    {
+        let first = self.next;
+        self.next = first + count;
+        first
+    }
+
+    /// Binds `width` more words to the variables from `next` on, and gives the first of these,
+    /// which is the old `next`. All words bound before and all temporaries stand in variables below
+    /// it. A refused bind changes nothing.
     pub fn bind(&mut self, width: u32) -> Result<u32, NoMemory>
         requires { self.old.next + width < 2 ^ 32 }
         ensures first { IfOk result (λ first. first ≡ self.old.next) }
-        ensures fresh { IfOk result (λ first. IsFresh self.old.rows self.old.first_temp self.old.temps first) }
-        ensures rows { OnOk result (self.new.rows ≡ self.old.rows ++ range_with_len self.old.next width) }
+        ensures fresh { IfOk result (IsFresh self.old.rows self.old.first_temp self.old.temps) }
+        ensures rows { OnOk result
+            (self.new.rows ≡ self.old.rows ++ range_with_len self.old.next width) }
         ensures next { OnOk result (self.new.next ≡ self.old.next + width) }
         ensures first_temp { self.new.first_temp ≡ self.old.first_temp }
         ensures temps { self.new.temps ≡ self.old.temps }
