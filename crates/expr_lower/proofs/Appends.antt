@@ -2,10 +2,10 @@
 use Rattle.std.proofs.Common.{rules, ◌≡◌, ◌==◌, List, [], ◌∷◌, length, refl}
 use Rattle.loop_ir.specs.declared.syntax.Stmt.{Stmt}
 use Rattle.loop_ir.specs.StatementCopies.{block_of}
-use Rattle.loop_ir.proofs.Copies.{set_push, if_push, return_push, join_join, join-nil}
+use Rattle.loop_ir.proofs.Copies.{set_push, if_push, join_join, join-nil}
 use Rattle.expr_lower.specs.Lowering.{is_empty}
 
-pub ruleset push_steps = (set_push, if_push, return_push, join_join, join-nil)
+pub ruleset push_steps = (set_push, if_push, join_join, join-nil)
 
 -- a list of statements is empty where its block is
 pub empty_block : (ss : List Stmt) → is_empty (block_of ss) ≡ (length ss == 0)

@@ -1,43 +1,141 @@
--- What is promised of the statements of an expression holds of those that it is lowered to.
-use Rattle.std.proofs.Common.{◌≡◌, ℕ, ◌+◌, ◌<◌, ◌≤◌, ◌^◌, List, length, sym, ap, subst, ◌∙◌, arith}
-use Rattle.std.specs.Prelude.{EachIndex, slice_index}
+-- What is promised of the statements of an expression holds of those that it becomes.
+use Rattle.std.proofs.Common.{◌≡◌, ℕ, ◌+◌, ◌<◌, ◌≤◌, ◌^◌, Bool, true, false, List, length, refl, sym, ap, subst, ◌∙◌, arith}
+use Rattle.std.specs.Prelude.{EachIndex, IsTrue, nat_lt, slice_index}
+use Rattle.std.proofs.lemmas.Bool.{lt-ltb}
+use Rattle.strm_num.specs.Words.{IsWord, truth_of}
 use Rattle.list_denotation.specs.declared.input.Input.{Input}
-use Rattle.list_denotation.specs.Terms.{Term}
-use Rattle.list_denotation.specs.Values.{Got, Is, Fails, value}
-use Rattle.loop_ir.specs.Statements.{Block, Nil, join}
-use Rattle.loop_ir.specs.Counts.{block_count, block_loops}
+use Rattle.list_denotation.specs.InputNames.{is_named_leaf as is_named_input, names_inputs}
+use Rattle.list_denotation.specs.Literals.{has_words}
+use Rattle.list_denotation.specs.Terms.{Term, Lit, Truth, Var, Param, Len}
+use Rattle.loop_ir.specs.Constants.{is_word_leaf, operand_has_words, test_has_words, block_has_words}
+use Rattle.loop_ir.specs.DeclaredNames.{Names, is_named_leaf, operand_names, test_names, block_names}
+use Rattle.loop_ir.specs.Statements.{Const, Block, Nil, join}
+use Rattle.loop_ir.proofs.JoinedBlocks.{names_joined, words_joined}
 use Rattle.state_alloc.specs.Layouts.{IsLaidOut}
-use Rattle.expr_lower.specs.Contract.{Scope, scope_of, IsTarget, Gives, GivesValue, NamesOnly}
-use Rattle.expr_lower.specs.Costs.{cost, temps_of}
-use Rattle.expr_lower.specs.Lowering.{lowered_into}
-use Rattle.expr_lower.specs.Scopes.{HasWords, IsBound, IsOutside}
-use Rattle.expr_lower.proofs.Apart.{IsApart, unread_apart}
-use Rattle.expr_lower.proofs.Effects.{Comes, IsIn}
-use Rattle.expr_lower.proofs.Lowers.{value_comes}
-use Rattle.expr_lower.proofs.Names.{names_allowed}
-use Rattle.expr_lower.proofs.Costs.{few_statements, no_loops}
+use Rattle.expr_lower.specs.Contract.{Scope, top_of, value_block, condition_block, condition_test, IsLowerable, GivesValue, GivesTruth, MayUse, NamesOnly, TestNamesOnly, PutsValue, TellsTruth}
+use Rattle.expr_lower.specs.Costs.{temps_of}
+use Rattle.expr_lower.specs.Laws.{Laws}
+use Rattle.expr_lower.specs.Scopes.{EachLeaf, IsWordLeaf, WordsInPlace, MayNameLeaf, MayNameWords}
+use Rattle.expr_lower.proofs.Disjointness.{unread_disjoint}
+use Rattle.expr_lower.proofs.Leaves.{both_leaves, each_leaf, tested_leaves, word_leaves}
+use Rattle.expr_lower.proofs.Operands.{Ready}
+use Rattle.expr_lower.proofs.Lowers.{value_comes, condition_comes_true}
+use Rattle.expr_lower.proofs.LeafTests.{leaf_operand, value_in, test_in}
+use Rattle.expr_lower.proofs.Costs.{few_statements, no_loops, few_in_condition, no_loops_in_condition}
 
-given : (scope : Scope) (target : ℕ) (inputs : List Input) (block : Block) (env : List ℕ) (g : Got ℕ) → Comes inputs block env target scope.first_temp scope.top (IsIn inputs target) g → Gives scope target inputs block env g
-given scope target inputs block env (Is x) h =
-    record { env' = h.env'; runs = h.runs; same = h.kept.same; value_is = h.holds; others = h.kept.others }
-given scope target inputs block env (Fails f) h = h
+-- ---- names
 
-pub gives_value : (scope : Scope) (e : Term) (target : ℕ) → HasWords e → scope.first_temp + temps_of e ≤ scope.top → IsOutside scope.first_temp scope.top target → IsApart scope.rows target scope.first_temp scope.top e → GivesValue scope e target (lowered_into scope.rows e target scope.first_temp)
-gives_value scope e target has room outside apart inputs words env inside within stands =
-    given scope target inputs (lowered_into scope.rows e target scope.first_temp) env (value e words inputs)
-    (value_comes scope.rows words inputs e target scope.first_temp scope.top env (record {
-      has = has;
-      outside = outside;
-      room = room;
-      inside = inside;
-      within = within;
-      apart = apart;
-      stands = stands;
-    }))
+module _ (may : Names) where
+  named_leaf : (rows : List ℕ) (x : Term) → MayNameLeaf may rows x → IsTrue (is_named_input may.inputs x) → IsTrue (operand_names may (leaf_operand rows x))
+  named_leaf rows (Lit c) var input = refl
+  named_leaf rows (Truth b) var input = refl
+  named_leaf rows (Var k) var input = var
+  named_leaf rows (Param k) var input = input
+  named_leaf rows (Len k) var input = input
+  named_leaf rows _ var input = refl
 
-pub names_only : (scope : Scope) (e : Term) (target : ℕ) → scope.first_temp + temps_of e ≤ scope.top → NamesOnly scope e target (lowered_into scope.rows e target scope.first_temp)
-names_only scope e target room may at_target at_temps names =
-    names_allowed may scope.rows e target scope.first_temp scope.top at_target at_temps room names
+  named_leaves : (rows : List ℕ) (e : Term) → MayNameWords may rows e → IsTrue (names_inputs may.inputs e) → EachLeaf (λ x. IsTrue (operand_names may (leaf_operand rows x))) e
+  named_leaves rows e vars inputs =
+      both_leaves (MayNameLeaf may rows) (λ x. IsTrue (is_named_input may.inputs x)) (λ x. IsTrue (operand_names may (leaf_operand rows x))) (named_leaf rows) e vars
+      (tested_leaves (is_named_input may.inputs) e inputs)
+
+-- ---- constants
+
+word_constant : (c : ℕ) → IsWord c → IsTrue (operand_has_words (Const c))
+word_constant c word = lt-ltb c (2 ^ 64) word
+
+truth_constant : (b : Bool) → IsTrue (nat_lt (truth_of b) (2 ^ 64))
+truth_constant true = refl
+truth_constant false = refl
+
+constant_leaf : (rows : List ℕ) (x : Term) → IsWordLeaf x → IsTrue (operand_has_words (leaf_operand rows x))
+constant_leaf rows (Lit c) word = word_constant c word
+constant_leaf rows (Truth b) word = truth_constant b
+constant_leaf rows (Var k) word = refl
+constant_leaf rows (Param k) word = refl
+constant_leaf rows (Len k) word = refl
+constant_leaf rows _ word = refl
+
+constant_leaves : (rows : List ℕ) (e : Term) → EachLeaf IsWordLeaf e → EachLeaf (λ x. IsTrue (operand_has_words (leaf_operand rows x))) e
+constant_leaves rows e has = each_leaf IsWordLeaf (λ x. IsTrue (operand_has_words (leaf_operand rows x))) (constant_leaf rows) e has
+
+-- ---- names and constants of an expression
+
+module _ (laws : Laws) (scope : Scope) (e : Term) (target : ℕ) (has : IsTrue (has_words e)) (room : temps_of e ≤ scope.temps) where
+  enough : scope.first_temp + temps_of e ≤ top_of scope
+  enough = omega (arith, room)
+
+  pub value_names : NamesOnly scope e target (value_block scope e target)
+  value_names may used =
+      value_in laws (is_named_leaf may) (λ c word. refl) (names_joined may) scope.rows e target scope.first_temp (top_of scope)
+      used.at_target used.temporaries enough (word_leaves e has) (named_leaves may scope.rows e used.words used.inputs)
+
+  condition_names : (may : Names) → MayUse may scope e target → IsTrue (block_names may (condition_block scope e target)) × IsTrue (test_names may (condition_test scope e target))
+  condition_names may used =
+      let parts = test_in laws (is_named_leaf may) (λ c word. refl) (names_joined may) scope.rows e target scope.first_temp (top_of scope)
+      used.at_target used.temporaries enough (word_leaves e has) (named_leaves may scope.rows e used.words used.inputs) in
+      (parts.block, parts.test)
+
+  pub condition_block_names : NamesOnly scope e target (condition_block scope e target)
+  condition_block_names may used = (condition_names may used).0
+
+  pub condition_test_names : TestNamesOnly scope e target (condition_test scope e target)
+  condition_test_names may used = (condition_names may used).1
+
+  pub value_constants : IsTrue (block_has_words (value_block scope e target))
+  value_constants =
+      value_in laws is_word_leaf word_constant words_joined scope.rows e target scope.first_temp (top_of scope)
+      refl (λ v low high. refl) enough (word_leaves e has) (constant_leaves scope.rows e (word_leaves e has))
+
+  pub condition_constants : IsTrue (block_has_words (condition_block scope e target)) × IsTrue (test_has_words (condition_test scope e target))
+  condition_constants =
+      let parts = test_in laws is_word_leaf word_constant words_joined scope.rows e target scope.first_temp (top_of scope)
+      refl (λ v low high. refl) enough (word_leaves e has) (constant_leaves scope.rows e (word_leaves e has)) in
+      (parts.block, parts.test)
+
+-- ---- what the statements do
+
+module _ (laws : Laws) (scope : Scope) (next : ℕ) (e : Term) (target : ℕ) (laid_out : IsLaidOut scope.rows scope.first_temp scope.temps next) (can : IsLowerable scope e target) where
+  ready : (inputs : List Input) (words env : List ℕ) → target < length env → top_of scope ≤ length env → WordsInPlace scope.rows words inputs env e → Ready scope.rows words inputs e target scope.first_temp (top_of scope) env
+  ready inputs words env inside within place = record {
+    has = word_leaves e can.words;
+    outside = can.is_target.outside;
+    room = omega (arith, can.temporaries);
+    inside = inside;
+    within = within;
+    apart = unread_disjoint scope.rows target scope.first_temp scope.temps next laid_out.words e can.bound can.is_target.unread;
+    in_place = place;
+  }
+
+  pub gives_value : GivesValue scope e target (value_block scope e target)
+  gives_value inputs words env inside within place =
+      value_comes laws scope.rows words inputs e target scope.first_temp (top_of scope) env (ready inputs words env inside within place)
+
+  pub gives_truth : GivesTruth scope e target (condition_block scope e target) (condition_test scope e target)
+  gives_truth inputs words env inside within place =
+      condition_comes_true laws scope.rows words inputs e target scope.first_temp (top_of scope) env (ready inputs words env inside within place)
+
+  pub puts_value : PutsValue scope e target (value_block scope e target)
+  puts_value = record {
+    gives = gives_value;
+    names = value_names laws scope e target can.words can.temporaries;
+    few = few_statements laws scope.rows e target scope.first_temp;
+    no_loops = no_loops laws scope.rows e target scope.first_temp;
+    constants = value_constants laws scope e target can.words can.temporaries;
+  }
+
+  pub tells_truth : TellsTruth scope e target (condition_block scope e target) (condition_test scope e target)
+  tells_truth = record {
+    gives = gives_truth;
+    names = condition_block_names laws scope e target can.words can.temporaries;
+    test_names = condition_test_names laws scope e target can.words can.temporaries;
+    few = few_in_condition laws scope.rows e target scope.first_temp;
+    no_loops = no_loops_in_condition laws scope.rows e target scope.first_temp;
+    constants = (condition_constants laws scope e target can.words can.temporaries).0;
+    test_constants = (condition_constants laws scope e target can.words can.temporaries).1;
+  }
+
+-- ---- of what the code gives
 
 -- variables that are laid out fit 32 bits
 pub rows_fit : (rows : List ℕ) (first_temp temps next : ℕ) → IsLaidOut rows first_temp temps next → EachIndex rows (λ i. slice_index rows i < 2 ^ 32)
@@ -46,25 +144,6 @@ rows_fit rows first_temp temps next laid_out = λ i lt. omega (arith, (laid_out.
 pub temps_fit : (rows : List ℕ) (first_temp temps next n : ℕ) → IsLaidOut rows first_temp temps next → n ≤ temps → first_temp + n < 2 ^ 32
 temps_fit rows first_temp temps next n laid_out le = omega (arith, laid_out.temporaries, laid_out.few, le)
 
--- ---- of what the code gives
-
--- what is appended to no statements is all of them
-pub all_appended : (made start appended : Block) → made ≡ join start appended → start ≡ Nil → made ≡ appended
-all_appended made start appended is none = is ∙ ap (λ b. join b appended) none
-
-pub gives : (rows : List ℕ) (first_temp temps next target : ℕ) (e : Term) (block : Block) → IsLaidOut rows first_temp temps next → HasWords e → IsBound (length rows) e → temps_of e ≤ temps → IsTarget (scope_of rows first_temp temps) e target → block ≡ lowered_into rows e target first_temp → GivesValue (scope_of rows first_temp temps) e target block
-gives rows first_temp temps next target e block laid_out has bound room is same =
-    let apart = unread_apart rows target first_temp temps next laid_out.words e bound is.unread in
-    subst (GivesValue (scope_of rows first_temp temps) e target) (sym same) (gives_value (scope_of rows first_temp temps) e target has (omega (arith, room)) is.outside apart)
-
-pub names : (rows : List ℕ) (first_temp temps target : ℕ) (e : Term) (block : Block) → temps_of e ≤ temps → block ≡ lowered_into rows e target first_temp → NamesOnly (scope_of rows first_temp temps) e target block
-names rows first_temp temps target e block room same =
-    subst (NamesOnly (scope_of rows first_temp temps) e target) (sym same) (names_only (scope_of rows first_temp temps) e target (omega (arith, room)))
-
-pub few : (rows : List ℕ) (e : Term) (target first_temp : ℕ) (block : Block) → block ≡ lowered_into rows e target first_temp → block_count block ≤ cost e
-few rows e target first_temp block same = omega (arith, ap block_count same, few_statements rows e target first_temp)
-
-pub loopless : (rows : List ℕ) (e : Term) (target first_temp : ℕ) (block : Block) → block ≡ lowered_into rows e target first_temp → block_loops block ≡ 0
-loopless rows e target first_temp block same = ap block_loops same ∙ no_loops rows e target first_temp
-
-pub ruleset facts = (few, loopless)
+-- what holds of statements that are appended to none holds of all
+pub of_all : (P : Block → Type 0) (all start appended : Block) → all ≡ join start appended → start ≡ Nil → P appended → P all
+of_all P all start appended is none h = subst P (sym (is ∙ ap (λ b. join b appended) none)) h

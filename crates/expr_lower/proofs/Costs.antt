@@ -1,28 +1,29 @@
 -- How many statements and temporaries an expression takes.
-use Rattle.std.proofs.Common.{◌≡◌, ℕ, ◌+◌, ◌*◌, ◌≤◌, List, Option, Some, None, zero, suc, Bool, true, false, ◌&&◌, refl, arith}
+use Rattle.std.proofs.Common.{◌≡◌, ℕ, ◌+◌, ◌*◌, ◌<◌, ◌≤◌, max, List, Option, Bool, true, false, ◌&&◌, refl, arith}
 use Rattle.std.specs.Prelude.{if◌then◌else◌}
 use Rattle.list_denotation.specs.declared.expr.BinOp.{BinOp}
 use Rattle.list_denotation.specs.declared.expr.BinOp.TheVariants as sign
 use Rattle.list_denotation.specs.Terms.{Term, Neg, Not, Bin, And, Or, If}
 use Rattle.list_denotation.specs.Counts.{term_nodes, term_depth}
 use Rattle.loop_ir.specs.declared.syntax.WOp.{WOp}
-use Rattle.loop_ir.specs.declared.syntax.Verdict.{Verdict}
 use Rattle.loop_ir.specs.Statements as s
-use Rattle.loop_ir.specs.Statements.{Operand, Test, Set, Ret, Block, Nil, Cons, join}
+use Rattle.loop_ir.specs.Statements.{Operand, Test, Set, Block, Nil, Cons, join}
 use Rattle.loop_ir.specs.Counts.{block_count, block_loops}
-use Rattle.expr_lower.specs.Phrases.{Division, set, set_truth, by_dividend, by_divisor}
-use Rattle.expr_lower.specs.Lowering.{Form, AWord, ATest, InTarget, Lowered, is_word, operand_rest, operand_block, target_rest, into, is_simple, as_word, in_target, lowered_minus, lowered_arithmetic, lowered_comparison, held_block, lowered_division, lowered_operation, is_empty, lowered_and, lowered_or, lowered, lowered_into}
+use Rattle.expr_phrases.specs.Phrases.{Division, set, set_truth, by_divisor, Connective, Conjunction, Disjunction, connected_test, connected_block}
+use Rattle.expr_phrases.specs.Simple.{is_simple}
+use Rattle.expr_lower.specs.Lowering.{Form, AWord, ATest, InTarget, Lowered, is_word, operand_rest, operand_block, target_rest, into, as_word, in_target, lowered_minus, lowered_arithmetic, lowered_comparison, division_operand_block, lowered_division, lowered_operation, condition_in, condition_of, is_empty, lowered_connective, lowered_term, lowered_into, lowered_test}
+use Rattle.expr_lower.specs.Laws.{Laws}
 use Rattle.expr_lower.specs.Costs.{operation_cost, cost, is_direct, temps_of}
 use Rattle.loop_ir.proofs.JoinedBlocks.{count_join, loops_join}
 
 -- ---- statements
 
--- a size of statements, where each assignment, choice and return adds u
+-- a size of statements, where each assignment and choice adds u, and a division at most nine times that
 record IsSize (size : Block → ℕ) (u : ℕ) : Type 0 where
   of_nil : size Nil ≡ 0
   of_set : (v : ℕ) (w : Operand) (ss : Block) → size (Cons (Set v w) ss) ≡ size ss + u
   of_if : (t : Test) (a b ss : Block) → size (Cons (s.If t a b) ss) ≡ size a + size b + size ss + u
-  of_ret : (r : Verdict) (ss : Block) → size (Cons (Ret r) ss) ≡ size ss + u
+  of_division : (d : Division) (m n : Option ℕ) (x y : Operand) (v : ℕ) → size (by_divisor d m n x y v) ≤ u * 9
   of_join : (b more : Block) → size (join b more) ≡ size b + size more
 
 -- each lemma bounds the size of statements by that of their parts
@@ -38,16 +39,6 @@ module _ (size : Block → ℕ) (u : ℕ) (is : IsSize size u) where
 
   truth_size : (v : ℕ) (t : Test) → size (set_truth v t) ≡ u * 3
   truth_size v t = omega (arith, if_size, set_size)
-
-  -- a quotient or remainder, once the divisor is known and from its test on
-  dividend_size : (d : Division) (dividend : Option ℕ) (x y : Operand) (divisor : Bool) (v : ℕ) → size (by_dividend d dividend x y divisor v) ≤ u * 3
-  dividend_size d (Some c) x y divisor v = omega (arith, set_size)
-  dividend_size d None x y divisor v = omega (arith, if_size, set_size)
-
-  divisor_size : (d : Division) (dividend divisor : Option ℕ) (x y : Operand) (v : ℕ) → size (by_divisor d dividend divisor x y v) ≤ u * 9
-  divisor_size d dividend (Some zero) x y v = omega (arith, is.of_ret, is.of_nil)
-  divisor_size d dividend (Some (suc c)) x y v = omega (arith, dividend_size)
-  divisor_size d dividend None x y v = omega (arith, is.of_if, is.of_ret, is.of_nil, if_size, dividend_size)
 
   -- ---- forms: what leaves an operand is no larger than what puts the value into the target
 
@@ -70,8 +61,8 @@ module _ (size : Block → ℕ) (u : ℕ) (is : IsSize size u) where
   word_size false w b v n one h = omega (arith, is.of_join, is.of_nil)
 
   -- a test, or statements that put a value into the target
-  test_size : (c : Bool) (t : Test) (b more : Block) (v n : ℕ) → size b + u * 3 ≤ n → size more ≤ n → size (into (if c then record { block = b; form = ATest t } else in_target more) v) ≤ n
-  test_size true t b more v n h k = omega (arith, is.of_join, truth_size)
+  test_size : (c : Bool) (t : Test) (b more : Block) (v n : ℕ) → size b + u * 3 ≤ n → size b + size more ≤ n → size (into (record { block = join b (if c then Nil else more); form = if c then ATest t else InTarget }) v) ≤ n
+  test_size true t b more v n h k = omega (arith, is.of_join, is.of_nil, truth_size)
   test_size false t b more v n h k = omega (arith, is.of_join, is.of_nil)
 
   minus_size : (a : Lowered) (v : ℕ) → size (into (lowered_minus a v) v) ≤ size (into a v) + u
@@ -85,12 +76,12 @@ module _ (size : Block → ℕ) (u : ℕ) (is : IsSize size u) where
   comparison_size : (o : BinOp) (a b : Lowered) (v t : ℕ) → size (into (lowered_comparison o a b v t) v) ≤ size (into a v) + size (into b t) + u * 3
   comparison_size o a b v t = omega (arith, is.of_join, operand_within, truth_size)
 
-  held_size : (e : Term) (l : Lowered) (v : ℕ) → size (held_block e l v) ≤ size (into l v)
-  held_size e l v =
+  division_operand_size : (e : Term) (l : Lowered) (v : ℕ) → size (division_operand_block e l v) ≤ size (into l v)
+  division_operand_size e l v =
       elim (is_simple e) as (λ c. size (if c then Nil else into l v) ≤ size (into l v)) [ true ↦ omega (arith, is.of_nil) | false ↦ omega arith ]
 
   division_size : (d : Division) (x y : Term) (a b : Lowered) (v t : ℕ) → size (into (lowered_division d x y a b v t) v) ≤ size (into a v) + size (into b t) + u * 9
-  division_size d x y a b v t = omega (arith, is.of_join, is.of_nil, held_size, divisor_size)
+  division_size d x y a b v t = omega (arith, is.of_join, is.of_nil, division_operand_size, is.of_division)
 
   operation_size : (o : BinOp) (x y : Term) (a b : Lowered) (v t : ℕ) → size (into (lowered_operation o x y a b v t) v) ≤ size (into a v) + size (into b t) + u * operation_cost o
   operation_size sign.Add x y a b v t = omega (arith, arithmetic_size)
@@ -105,53 +96,63 @@ module _ (size : Block → ℕ) (u : ℕ) (is : IsSize size u) where
   operation_size sign.Gt x y a b v t = omega (arith, comparison_size)
   operation_size sign.Ge x y a b v t = omega (arith, comparison_size)
 
-  and_size : (a b : Lowered) (v : ℕ) → size (into (lowered_and a b v) v) ≤ size (into a v) + size (into b v) + u * 5
-  and_size a b v =
-      test_size (is_empty b.block) _ _ _ v (size (into a v) + size (into b v) + u * 5) (omega (arith, block_within))
-      (omega (arith, is.of_join, block_within, if_size, truth_size, set_size))
+  connected_size : (o : Connective) (t : Test) (second : Block) (v : ℕ) → size (connected_block o t second v) ≡ size second + u * 2
+  connected_size Conjunction t second v = omega (arith, if_size, set_size)
+  connected_size Disjunction t second v = omega (arith, if_size, set_size)
 
-  or_size : (a b : Lowered) (v : ℕ) → size (into (lowered_or a b v) v) ≤ size (into a v) + size (into b v) + u * 5
-  or_size a b v =
-      test_size (is_empty b.block) _ _ _ v (size (into a v) + size (into b v) + u * 5) (omega (arith, block_within))
-      (omega (arith, is.of_join, block_within, if_size, truth_size, set_size))
+  connective_size : (o : Connective) (a b : Lowered) (v : ℕ) → size (into (lowered_connective o (condition_of a v) (condition_of b v) v) v) ≤ size (into a v) + size (into b v) + u * 5
+  connective_size o a b v =
+      let first : Test = condition_in a.form v in
+      let truth : Block = set_truth v (condition_in b.form v) in
+      let second : Block = join b.block truth in
+      test_size (is_empty b.block) (connected_test o first (condition_in b.form v)) a.block (connected_block o first second v) v (size (into a v) + size (into b v) + u * 5)
+      (omega (arith, block_within a v))
+      (omega (arith, connected_size o first second v, is.of_join b.block truth, truth_size v (condition_in b.form v), block_within a v, block_within b v))
 
   -- the size of an expression's statements is within its cost
   size_within : (rows : List ℕ) (e : Term) (v t : ℕ) → size (lowered_into rows e v t) ≤ u * cost e
-  size_within rows (Neg a) v t = omega (arith, minus_size (lowered rows a v t) v, size_within rows a v t)
-  size_within rows (Not a) v t = omega (arith, is.of_join, truth_size, block_within (lowered rows a v t) v, size_within rows a v t)
+  size_within rows (Neg a) v t = omega (arith, minus_size (lowered_term rows a v t) v, size_within rows a v t)
+  size_within rows (Not a) v t = omega (arith, is.of_join, truth_size, block_within (lowered_term rows a v t) v, size_within rows a v t)
   size_within rows (Bin o a b) v t =
-      omega (arith, operation_size o a b (lowered rows a v t) (lowered rows b t (t + 1)) v t, size_within rows a v t, size_within rows b t (t + 1))
-  size_within rows (And a b) v t = omega (arith, and_size (lowered rows a v t) (lowered rows b v t) v, size_within rows a v t, size_within rows b v t)
-  size_within rows (Or a b) v t = omega (arith, or_size (lowered rows a v t) (lowered rows b v t) v, size_within rows a v t, size_within rows b v t)
+      omega (arith, operation_size o a b (lowered_term rows a v t) (lowered_term rows b t (t + 1)) v t, size_within rows a v t, size_within rows b t (t + 1))
+  size_within rows (And a b) v t = omega (arith, connective_size Conjunction (lowered_term rows a v t) (lowered_term rows b v t) v, size_within rows a v t, size_within rows b v t)
+  size_within rows (Or a b) v t = omega (arith, connective_size Disjunction (lowered_term rows a v t) (lowered_term rows b v t) v, size_within rows a v t, size_within rows b v t)
   size_within rows (If c a b) v t =
-      omega (arith, is.of_join, is.of_nil, if_size, block_within (lowered rows c v t) v, size_within rows c v t, size_within rows a v t, size_within rows b v t)
+      omega (arith, is.of_join, is.of_nil, if_size, block_within (lowered_term rows c v t) v, size_within rows c v t, size_within rows a v t, size_within rows b v t)
   size_within rows _ v t = omega (arith, is.of_join, is.of_nil, set_size)
 
-count_size : IsSize block_count 1
-count_size = record {
+count_size : Laws → IsSize block_count 1
+count_size laws = record {
   of_nil = refl;
   of_set = λ v w ss. omega arith;
   of_if = λ t a b ss. omega arith;
-  of_ret = λ r ss. omega arith;
+  of_division = λ d m n x y v. omega (arith, laws.division_few d m n x y v);
   of_join = count_join;
 }
 
 -- an expression has no more statements than it costs
-pub few_statements : (rows : List ℕ) (e : Term) (v t : ℕ) → block_count (lowered_into rows e v t) ≤ cost e
-few_statements rows e v t = omega (arith, size_within block_count 1 count_size rows e v t)
+pub few_statements : (laws : Laws) (rows : List ℕ) (e : Term) (v t : ℕ) → block_count (lowered_into rows e v t) ≤ cost e
+few_statements laws rows e v t = omega (arith, size_within block_count 1 (count_size laws) rows e v t)
 
-loops_size : IsSize block_loops 0
-loops_size = record {
+loops_size : Laws → IsSize block_loops 0
+loops_size laws = record {
   of_nil = refl;
   of_set = λ v w ss. omega arith;
   of_if = λ t a b ss. omega arith;
-  of_ret = λ r ss. omega arith;
+  of_division = λ d m n x y v. omega (arith, laws.division_loops d m n x y v);
   of_join = loops_join;
 }
 
 -- and no loops
-pub no_loops : (rows : List ℕ) (e : Term) (v t : ℕ) → block_loops (lowered_into rows e v t) ≡ 0
-no_loops rows e v t = omega (arith, size_within block_loops 0 loops_size rows e v t)
+pub no_loops : (laws : Laws) (rows : List ℕ) (e : Term) (v t : ℕ) → block_loops (lowered_into rows e v t) ≡ 0
+no_loops laws rows e v t = omega (arith, size_within block_loops 0 (loops_size laws) rows e v t)
+
+-- so it is of a condition
+pub few_in_condition : (laws : Laws) (rows : List ℕ) (e : Term) (v t : ℕ) → block_count (lowered_test rows e v t).block ≤ cost e
+few_in_condition laws rows e v t = omega (arith, block_within block_count 1 (count_size laws) (lowered_term rows e v t) v, few_statements laws rows e v t)
+
+pub no_loops_in_condition : (laws : Laws) (rows : List ℕ) (e : Term) (v t : ℕ) → block_loops (lowered_test rows e v t).block ≡ 0
+no_loops_in_condition laws rows e v t = omega (arith, block_within block_loops 0 (loops_size laws) (lowered_term rows e v t) v, no_loops laws rows e v t)
 
 -- the cost of an operation is at most that of a division
 operation_within : (o : BinOp) → operation_cost o ≤ 9
@@ -178,6 +179,14 @@ cost_nodes _ = omega arith
 kept_within : (c : Bool) (n : ℕ) → (if c then 0 else n + 1) ≤ n + 1
 kept_within true n = omega arith
 kept_within false n = omega arith
+
+-- those of a right operand that is kept are fewer than those of the operation
+pub kept_few : (o : BinOp) (a b : Term) (n : ℕ) → is_direct o b ≡ false → max (temps_of a) (if is_direct o b then 0 else temps_of b + 1) < n → temps_of b + 1 < n
+kept_few o a b n kept le = by_kept (is_direct o b) kept le
+  where
+    by_kept : (c : Bool) → c ≡ false → max (temps_of a) (if c then 0 else temps_of b + 1) < n → temps_of b + 1 < n
+    by_kept true kept le = absurd cc
+    by_kept false kept le = omega arith
 
 -- at most one for each level of depth
 pub temps_depth : (e : Term) → temps_of e ≤ term_depth e

@@ -1,62 +1,34 @@
 -- The statements of an expression come to its value, by one induction over the expression.
 use Rattle.std.proofs.Common.{◌≡◌, inl, ℕ, zero, suc, ◌+◌, ◌-◌, ◌<◌, ◌≤◌, ◌^◌, Bool, true, false, ◌&&◌, List, [], length, max, refl, sym, ap, ◌∙◌, subst, arith}
-use Rattle.std.specs.Prelude.{if◌then◌else◌, not, ◌==◌, bit_xor}
+use Rattle.std.specs.Prelude.{if◌then◌else◌, not}
 use Rattle.std.proofs.Math.Nat.{mod-lt}
-use Rattle.std.proofs.lemmas.Nat.{xor_comm}
-use Rattle.strm_num.specs.Words.{negation_of, is_less, truth_of}
-use Rattle.strm_num.proofs.Signed.{less_is}
+use Rattle.strm_num.specs.Words.{negation_of, truth_of}
 use Rattle.list_denotation.specs.declared.expr.BinOp.{BinOp}
 use Rattle.list_denotation.specs.declared.expr.BinOp.TheVariants as sign
 use Rattle.list_denotation.specs.declared.input.Input.{Input}
 use Rattle.list_denotation.specs.Terms as term
 use Rattle.list_denotation.specs.Terms.{Term}
-use Rattle.list_denotation.specs.Values.{Got, Is, Fails, with_value, choice, divided, operation_of, value}
+use Rattle.list_denotation.specs.Values.{Trap, Got, Is, Fails, with_value, choice, unless_zero, operation_of, value}
 use Rattle.loop_ir.specs.declared.syntax.WOp.{WOp}
-use Rattle.loop_ir.specs.Statements.{Operand, Const, Var, Len, Int, Bin, Test, Both, Either, If, Block, Nil, Cons, join}
+use Rattle.loop_ir.specs.Statements.{Operand, Const, Var, Bin, Test, If, Block, Nil, Cons, join}
 use Rattle.loop_ir.proofs.Copies.{join-nil}
 use Rattle.loop_ir.specs.Meaning.{Runs, operand_value, test_value, run}
-use Rattle.expr_lower.specs.Phrases.{Division, Quotient, Remainder, set, minus, set_truth, opposite, flipped, signed_less, compared, by_divisor}
-use Rattle.expr_lower.specs.Lowering.{Lowered, Form, AWord, ATest, InTarget, is_word, as_word, in_target, operand_block, operand_in, condition_in, into, constant_of, is_simple, held_block, held_in, lowered_minus, lowered_arithmetic, lowered_comparison, lowered_division, lowered_operation, is_empty, lowered}
+use Rattle.expr_phrases.specs.Results.{comparison_truth, result_of}
+use Rattle.expr_lower.specs.Contract.{is_true, Kept, GoesOn, ComesTo, IsIn}
+use Rattle.expr_phrases.specs.Phrases.{Division, Quotient, Remainder, set, minus, set_truth, opposite, comparison_test, by_divisor, Connective, Conjunction, Disjunction, connected_test, connected_block}
+use Rattle.expr_phrases.specs.Simple.{constant_of, is_simple}
+use Rattle.expr_lower.specs.Lowering.{Lowered, Form, AWord, ATest, InTarget, is_word, as_word, in_target, operand_block, operand_in, condition_in, into, division_operand_block, division_operand_in, lowered_minus, lowered_arithmetic, lowered_comparison, lowered_division, lowered_operation, is_empty, connective_form, lowered_connective, lowered_term, lowered_test}
 use Rattle.expr_lower.specs.Costs.{is_plain, is_direct, temps_of}
-use Rattle.expr_lower.specs.Scopes.{HasWords, Stands}
-use Rattle.expr_lower.proofs.Apart.{IsApart, apart_right}
-use Rattle.expr_lower.proofs.Effects.{Kept, Arrives, Comes, IsIn, then_comes, maps, nothing_comes, set_comes, first_comes, second_comes, set_truth_comes}
+use Rattle.expr_lower.specs.Laws.{Laws}
+use Rattle.expr_lower.specs.Scopes.{EachLeaf, IsWordLeaf, WordsInPlace}
+use Rattle.expr_lower.proofs.Disjointness.{IsDisjoint, disjoint_right}
+use Rattle.expr_lower.proofs.Effects.{IsWordValue, then_comes, maps, nothing_comes, assigns_comes, set_comes, first_comes, second_comes, set_truth_comes}
 use Rattle.expr_lower.proofs.Plain.{plain_form}
 use Rattle.expr_lower.proofs.PlainValues.{arithmetic_operator, arithmetic_value, arithmetic_word, truth_word}
-use Rattle.expr_lower.proofs.Divisions.{result_of, divisor_comes, minus_value}
-use Rattle.expr_lower.proofs.Uses.{is_true, HasTruth, IsFound, IsCondition, stands_still, condition_comes, target_comes, opposite_is}
-use Rattle.expr_lower.proofs.Operands.{Ready, still_ready, IsLowered, IsHeld, BothAre, plain_comes, left_comes, held_comes, right_comes, held_right, operands_come}
+use Rattle.expr_lower.proofs.ValueUses.{HasTruth, IsFound, IsCondition, still_in_place, condition_comes, target_comes}
+use Rattle.expr_lower.proofs.Operands.{Ready, still_ready, IsLowered, IsKeptOperand, BothAre, plain_comes, left_comes, division_operand_comes, right_comes, division_right_comes, operands_come}
 
--- ---- comparisons
-
-abbrev pub comparison_truth : BinOp → ℕ → ℕ → Bool
-comparison_truth sign.Ne x y = not (x == y)
-comparison_truth sign.Lt x y = is_less x y
-comparison_truth sign.Le x y = not (is_less y x)
-comparison_truth sign.Gt x y = is_less y x
-comparison_truth sign.Ge x y = not (is_less x y)
-comparison_truth _ x y = x == y
-
-flipped_is : (inputs : List Input) (w : Operand) (x : ℕ) (env : List ℕ) → operand_value inputs w env ≡ Is x → operand_value inputs (flipped w) env ≡ Is (bit_xor x (2 ^ 63))
-flipped_is inputs (Const c) x env h = let same : c ≡ x = cc in ap Is (xor_comm (2 ^ 63) c ∙ ap (λ n. bit_xor n (2 ^ 63)) same)
-flipped_is inputs (Var v) x env h = ap (λ g. with_value g (λ n. Is (bit_xor n (2 ^ 63)))) h
-flipped_is inputs (Len a) x env h = ap (λ g. with_value g (λ n. Is (bit_xor n (2 ^ 63)))) h
-flipped_is inputs (Int k) x env h = ap (λ g. with_value g (λ n. Is (bit_xor n (2 ^ 63)))) h
-flipped_is inputs (Bin o a b) x env h = ap (λ g. with_value g (λ n. Is (bit_xor n (2 ^ 63)))) h
-
-signed_less_is : (inputs : List Input) (wx wy : Operand) (x y : ℕ) (env : List ℕ) → x < 2 ^ 64 → y < 2 ^ 64 → operand_value inputs wx env ≡ Is x → operand_value inputs wy env ≡ Is y → test_value inputs (signed_less wx wy) env ≡ Is (is_less x y)
-signed_less_is inputs wx wy x y env x_word y_word hx hy =
-    rw (flipped_is inputs wx x env hx, flipped_is inputs wy y env hy) (ap Is (sym (less_is x y x_word y_word)))
-
-compared_is : (inputs : List Input) (o : BinOp) (wx wy : Operand) (x y : ℕ) (env : List ℕ) → x < 2 ^ 64 → y < 2 ^ 64 → operand_value inputs wx env ≡ Is x → operand_value inputs wy env ≡ Is y → test_value inputs (compared o wx wy) env ≡ Is (comparison_truth o x y)
-compared_is inputs sign.Ne wx wy x y env x_word y_word hx hy = rw (hx, hy) refl
-compared_is inputs sign.Lt wx wy x y env x_word y_word hx hy = signed_less_is inputs wx wy x y env x_word y_word hx hy
-compared_is inputs sign.Le wx wy x y env x_word y_word hx hy =
-    ap (λ g. with_value g (λ b. Is (not b))) (signed_less_is inputs wy wx y x env y_word x_word hy hx)
-compared_is inputs sign.Gt wx wy x y env x_word y_word hx hy = signed_less_is inputs wy wx y x env y_word x_word hy hx
-compared_is inputs sign.Ge wx wy x y env x_word y_word hx hy =
-    ap (λ g. with_value g (λ b. Is (not b))) (signed_less_is inputs wx wy x y env x_word y_word hx hy)
-compared_is inputs _ wx wy x y env x_word y_word hx hy = rw (hx, hy) refl
+-- ---- operations on words
 
 arithmetic_is : (inputs : List Input) (o : BinOp) (wx wy : Operand) (x y : ℕ) (env : List ℕ) → operand_value inputs wx env ≡ Is x → operand_value inputs wy env ≡ Is y → operand_value inputs (Bin (arithmetic_operator o) wx wy) env ≡ Is (arithmetic_value o x y)
 arithmetic_is inputs sign.Sub wx wy x y env hx hy = rw (hx, hy) refl
@@ -65,6 +37,11 @@ arithmetic_is inputs _ wx wy x y env hx hy = rw (hx, hy) refl
 
 negation_word : (x : ℕ) → negation_of x < 2 ^ 64
 negation_word x = mod-lt (2 ^ 64 - x) (omega arith)
+
+-- a quotient or remainder is a word, where there is one
+word_unless_zero : (y r : ℕ) → r < 2 ^ 64 → IsWordValue (unless_zero Trap y r)
+word_unless_zero zero r word = tt
+word_unless_zero (suc y) r word = word
 
 -- ---- what is chosen
 
@@ -76,7 +53,7 @@ truth_choice : (x : ℕ) → choice x 0 1 ≡ truth_of (is_true x)
 truth_choice zero = refl
 truth_choice (suc x) = refl
 
-module _ (rows words : List ℕ) (inputs : List Input) where
+module _ (laws : Laws) (rows words : List ℕ) (inputs : List Input) where
   -- ---- the parts of an expression that is ready
 
   left_ready : (o : BinOp) (a b : Term) (v t top : ℕ) (env : List ℕ) → Ready rows words inputs (term.Bin o a b) v t top env → Ready rows words inputs a v t top env
@@ -87,7 +64,7 @@ module _ (rows words : List ℕ) (inputs : List Input) where
     inside = ready.inside;
     within = ready.within;
     apart = ready.apart.0;
-    stands = ready.stands.0;
+    in_place = ready.in_place.0;
   }
     where
       left_room : (m n : ℕ) → t + max m n ≤ top → t + m ≤ top
@@ -109,8 +86,8 @@ module _ (rows words : List ℕ) (inputs : List Input) where
           room = room;
           inside = omega (arith, below, ready.within);
           within = ready.within;
-          apart = apart_right rows v t top b below ready.apart.1;
-          stands = ready.stands.1;
+          apart = disjoint_right rows v t top b below ready.apart.1;
+          in_place = ready.in_place.1;
         },
       )
 
@@ -125,31 +102,31 @@ module _ (rows words : List ℕ) (inputs : List Input) where
   as_minus l v h = ap (λ b. if b then as_word (minus (operand_in l.form v)) else in_target (join (operand_block l v) (set v (minus (Var v))))) h
 
   minus_comes : (a : Term) (v t top : ℕ) (env : List ℕ) (plain : Bool) → is_plain a ≡ plain → Ready rows words inputs (term.Neg a) v t top env → Ready rows words inputs a v t top env → IsLowered rows words inputs a v t top env → IsLowered rows words inputs (term.Neg a) v t top env
-  minus_comes a v t top env true is ready part h = plain_comes rows words inputs (term.Neg a) v t top env is ready
+  minus_comes a v t top env true is ready part h = plain_comes rows words inputs laws (term.Neg a) v t top env is ready
   minus_comes a v t top env false is ready part h =
-      let l : Lowered = lowered rows a v t in
+      let l : Lowered = lowered_term rows a v t in
       let bare : is_word l.form ≡ false = plain_form rows a v t ∙ is in
-      subst (λ m. Comes inputs m.block env v t top (IsFound rows words inputs (term.Neg a) m.form v) (value (term.Neg a) words inputs)) (sym (as_minus l v bare))
-      (then_comes inputs (operand_block l v) (set v (minus (Var v))) env v t top (IsHeld rows words inputs a (operand_in l.form v) v) (IsIn inputs v) (value a words inputs) (λ x. Is (negation_of x))
+      subst (λ m. ComesTo inputs m.block env v t top (IsFound rows words inputs (term.Neg a) m.form v) (value (term.Neg a) words inputs)) (sym (as_minus l v bare))
+      (then_comes inputs (operand_block l v) (set v (minus (Var v))) env v t top (IsKeptOperand rows words inputs a (operand_in l.form v) v) (IsIn v) (value a words inputs) (λ x. Is (negation_of x))
       (left_comes rows words inputs a v t top env part h)
       (λ x env' word kept held. minus_set a l v t top x env' bare (still_ready rows words inputs a v t top env env' kept part) held))
     where
-      minus_set : (a : Term) (l : Lowered) (v t top x : ℕ) (env' : List ℕ) → is_word l.form ≡ false → Ready rows words inputs a v t top env' → IsHeld rows words inputs a (operand_in l.form v) v x env' → Arrives inputs (set v (minus (Var v))) env' v t top (IsIn inputs v) (negation_of x)
+      minus_set : (a : Term) (l : Lowered) (v t top x : ℕ) (env' : List ℕ) → is_word l.form ≡ false → Ready rows words inputs a v t top env' → IsKeptOperand rows words inputs a (operand_in l.form v) v x env' → GoesOn inputs (set v (minus (Var v))) env' v t top (IsIn v) (negation_of x)
       minus_set a l v t top x env' bare part held =
           set_comes inputs env' v t top (minus (Var v)) (negation_of x) part.inside (negation_word x)
-          (minus_value inputs (Var v) x env' (ap (λ w. operand_value inputs w env') (sym (no_word l.form v bare)) ∙ held.0 env' part.stands refl))
+          (laws.minus_value inputs (Var v) x env' (ap (λ w. operand_value inputs w env') (sym (no_word l.form v bare)) ∙ held.0 env' part.in_place refl))
 
   not_comes : (a : Term) (v t top : ℕ) (env : List ℕ) → Ready rows words inputs a v t top env → IsLowered rows words inputs a v t top env → IsLowered rows words inputs (term.Not a) v t top env
   not_comes a v t top env ready h =
-      let l : Lowered = lowered rows a v t in
+      let l : Lowered = lowered_term rows a v t in
       let c : Test = condition_in l.form v in
       maps inputs l.block env v t top (IsCondition rows words inputs c) (λ x env'. HasTruth rows words inputs (opposite c) env' x) (value a words inputs) (λ x. choice x 1 0)
-      (condition_comes rows words inputs a l.block l.form v t top env (value a words inputs) ready.apart ready.stands h)
+      (condition_comes rows words inputs a l.block l.form v t top env (value a words inputs) ready.apart ready.in_place h)
       (λ x env' word kept is. (
         subst (λ n. n < 2 ^ 64) (sym (not_choice x)) (truth_word (not (is_true x))),
         record {
           truth = not (is_true x);
-          is = opposite_is inputs c env' (is_true x) is;
+          is = laws.opposite_value inputs c env' (is_true x) is;
           as_word = not_choice x;
         },
       ))
@@ -160,9 +137,9 @@ module _ (rows words : List ℕ) (inputs : List Input) where
   as_arithmetic o a b v t h =
       ap (λ c. if c then as_word (Bin o (operand_in a.form v) (operand_in b.form t)) else in_target (join (operand_block a v) (join (operand_block b t) (set v (Bin o (operand_in a.form v) (operand_in b.form t)))))) h
 
-  both_words : (a b : Term) (v t : ℕ) → (is_word (lowered rows a v t).form && is_word (lowered rows b t (t + 1)).form) ≡ (is_plain a && is_plain b)
+  both_words : (a b : Term) (v t : ℕ) → (is_word (lowered_term rows a v t).form && is_word (lowered_term rows b t (t + 1)).form) ≡ (is_plain a && is_plain b)
   both_words a b v t =
-      ap (λ c. c && is_word (lowered rows b t (t + 1)).form) (plain_form rows a v t) ∙ ap (λ c. is_plain a && c) (plain_form rows b t (t + 1))
+      ap (λ c. c && is_word (lowered_term rows b t (t + 1)).form) (plain_form rows a v t) ∙ ap (λ c. is_plain a && c) (plain_form rows b t (t + 1))
 
   -- the right operand is lowered behind the left one
   abbrev LowersRight : Term → ℕ → ℕ → Type 0
@@ -170,10 +147,10 @@ module _ (rows words : List ℕ) (inputs : List Input) where
 
   module _ (o : BinOp) (a b : Term) (v t top : ℕ) (env : List ℕ) (ready : Ready rows words inputs (term.Bin o a b) v t top env) (left : IsLowered rows words inputs a v t top env) (lower : LowersRight b t top) where
     abbrev first : Lowered
-    first = lowered rows a v t
+    first = lowered_term rows a v t
 
     abbrev second : Lowered
-    second = lowered rows b t (t + 1)
+    second = lowered_term rows b t (t + 1)
 
     -- what is there for the right operand where it isn't direct
     kept_right_ready : (env' : List ℕ) → Kept v t top env env' → is_direct o b ≡ false → (t < top) × Ready rows words inputs b t (t + 1) top env' × IsLowered rows words inputs b t (t + 1) top env'
@@ -181,13 +158,13 @@ module _ (rows words : List ℕ) (inputs : List Input) where
         let r = right_ready o a b v t top env' indirect (still_ready rows words inputs (term.Bin o a b) v t top env env' kept ready) in
         (r.0, r.1, lower env' r.1)
 
-    both_come : (rest : Block) (Q : ℕ → List ℕ → Type 0) (f : ℕ → ℕ → Got ℕ) → is_direct o b ≡ is_plain b → ((x y : ℕ) (env' : List ℕ) → Kept v t top env env' → BothAre rows words inputs a b (operand_in first.form v) (operand_in second.form t) x y env' → Comes inputs rest env' v t top Q (f x y)) → Comes inputs (join (operand_block first v) (join (operand_block second t) rest)) env v t top Q (with_value (value a words inputs) (λ x. with_value (value b words inputs) (λ y. f x y)))
+    both_come : (rest : Block) (Q : ℕ → List ℕ → Type 0) (f : ℕ → ℕ → Got ℕ) → is_direct o b ≡ is_plain b → ((x y : ℕ) (env' : List ℕ) → Kept v t top env env' → BothAre rows words inputs a b (operand_in first.form v) (operand_in second.form t) x y env' → ComesTo inputs rest env' v t top Q (f x y)) → ComesTo inputs (join (operand_block first v) (join (operand_block second t) rest)) env v t top Q (with_value (value a words inputs) (λ x. with_value (value b words inputs) (λ y. f x y)))
     both_come rest Q f direct more =
         operands_come rows words inputs a b (operand_block first v) (operand_block second t) rest (operand_in first.form v) (operand_in second.form t) v t top env Q f
-        ready.apart.0 ready.apart.1 ready.stands.0 ready.stands.1
+        ready.apart.0 ready.apart.1 ready.in_place.0 ready.in_place.1
         (left_comes rows words inputs a v t top env (left_ready o a b v t top env ready) left)
-        (λ env' kept. right_comes rows words inputs b v t top env' (is_plain b) refl ready.outside ready.has.1
-        (stands_still rows words inputs b v t top env env' ready.apart.1 kept ready.stands.1)
+        (λ env' kept. right_comes rows words inputs laws b v t top env' (is_plain b) refl ready.outside ready.has.1
+        (still_in_place rows words inputs b v t top env env' ready.apart.1 kept ready.in_place.1)
         (λ e. kept_right_ready env' kept (direct ∙ e)))
         more
 
@@ -195,19 +172,19 @@ module _ (rows words : List ℕ) (inputs : List Input) where
     inside_still env' kept = subst (λ n. v < n) (sym kept.same) ready.inside
 
     -- sums and products
-    arithmetic_set : is_direct o b ≡ is_plain b → ((x y : ℕ) → operation_of o x y ≡ Is (arithmetic_value o x y)) → Comes inputs (join (operand_block first v) (join (operand_block second t) (set v (Bin (arithmetic_operator o) (operand_in first.form v) (operand_in second.form t))))) env v t top (IsIn inputs v) (value (term.Bin o a b) words inputs)
+    arithmetic_set : is_direct o b ≡ is_plain b → ((x y : ℕ) → operation_of o x y ≡ Is (arithmetic_value o x y)) → ComesTo inputs (join (operand_block first v) (join (operand_block second t) (set v (Bin (arithmetic_operator o) (operand_in first.form v) (operand_in second.form t))))) env v t top (IsIn v) (value (term.Bin o a b) words inputs)
     arithmetic_set direct is =
-        both_come (set v (Bin (arithmetic_operator o) (operand_in first.form v) (operand_in second.form t))) (IsIn inputs v) (λ x y. operation_of o x y) direct
+        both_come (set v (Bin (arithmetic_operator o) (operand_in first.form v) (operand_in second.form t))) (IsIn v) (λ x y. operation_of o x y) direct
         (λ x y env' kept both.
-        subst (λ g. Comes inputs (set v (Bin (arithmetic_operator o) (operand_in first.form v) (operand_in second.form t))) env' v t top (IsIn inputs v) g) (sym (is x y))
+        subst (λ g. ComesTo inputs (set v (Bin (arithmetic_operator o) (operand_in first.form v) (operand_in second.form t))) env' v t top (IsIn v) g) (sym (is x y))
         (set_comes inputs env' v t top (Bin (arithmetic_operator o) (operand_in first.form v) (operand_in second.form t)) (arithmetic_value o x y) (inside_still env' kept) (arithmetic_word o x y)
-        (arithmetic_is inputs o (operand_in first.form v) (operand_in second.form t) x y env' both.left both.right)))
+        (arithmetic_is inputs o (operand_in first.form v) (operand_in second.form t) x y env' both.left.is both.right.is)))
 
-    lowered_as : (m : Lowered) → lowered_operation o a b first second v t ≡ m → Comes inputs m.block env v t top (IsFound rows words inputs (term.Bin o a b) m.form v) (value (term.Bin o a b) words inputs) → IsLowered rows words inputs (term.Bin o a b) v t top env
-    lowered_as m is h = subst (λ l. Comes inputs l.block env v t top (IsFound rows words inputs (term.Bin o a b) l.form v) (value (term.Bin o a b) words inputs)) (sym is) h
+    lowered_as : (m : Lowered) → lowered_operation o a b first second v t ≡ m → ComesTo inputs m.block env v t top (IsFound rows words inputs (term.Bin o a b) m.form v) (value (term.Bin o a b) words inputs) → IsLowered rows words inputs (term.Bin o a b) v t top env
+    lowered_as m is h = subst (λ l. ComesTo inputs l.block env v t top (IsFound rows words inputs (term.Bin o a b) l.form v) (value (term.Bin o a b) words inputs)) (sym is) h
 
     pub arithmetic_comes : (plain : Bool) → (is_plain a && is_plain b) ≡ plain → lowered_operation o a b first second v t ≡ lowered_arithmetic (arithmetic_operator o) first second v t → is_plain (term.Bin o a b) ≡ (is_plain a && is_plain b) → is_direct o b ≡ is_plain b → ((x y : ℕ) → operation_of o x y ≡ Is (arithmetic_value o x y)) → IsLowered rows words inputs (term.Bin o a b) v t top env
-    arithmetic_comes true is whole shape direct value_is = plain_comes rows words inputs (term.Bin o a b) v t top env (shape ∙ is) ready
+    arithmetic_comes true is whole shape direct value_is = plain_comes rows words inputs laws (term.Bin o a b) v t top env (shape ∙ is) ready
     arithmetic_comes false is whole shape direct value_is =
         lowered_as (in_target (join (operand_block first v) (join (operand_block second t) (set v (Bin (arithmetic_operator o) (operand_in first.form v) (operand_in second.form t))))))
         (whole ∙ as_arithmetic (arithmetic_operator o) first second v t (both_words a b v t ∙ is))
@@ -216,37 +193,38 @@ module _ (rows words : List ℕ) (inputs : List Input) where
     -- comparisons
     pub comparison_comes : lowered_operation o a b first second v t ≡ lowered_comparison o first second v t → is_direct o b ≡ is_plain b → ((x y : ℕ) → operation_of o x y ≡ Is (truth_of (comparison_truth o x y))) → IsLowered rows words inputs (term.Bin o a b) v t top env
     comparison_comes whole direct value_is =
-        let c : Test = compared o (operand_in first.form v) (operand_in second.form t) in
+        let c : Test = comparison_test o (operand_in first.form v) (operand_in second.form t) in
         let Q : ℕ → List ℕ → Type 0 = λ x env'. HasTruth rows words inputs c env' x in
         lowered_as (lowered_comparison o first second v t) whole
-        (subst (λ block. Comes inputs (join (operand_block first v) block) env v t top Q (value (term.Bin o a b) words inputs)) (join-nil (operand_block second t))
+        (subst (λ block. ComesTo inputs (join (operand_block first v) block) env v t top Q (value (term.Bin o a b) words inputs)) (join-nil (operand_block second t))
         (both_come Nil Q (λ x y. operation_of o x y) direct
         (λ x y env' kept both.
-        subst (λ g. Comes inputs Nil env' v t top Q g) (sym (value_is x y))
+        subst (λ g. ComesTo inputs Nil env' v t top Q g) (sym (value_is x y))
         (nothing_comes inputs env' v t top (truth_of (comparison_truth o x y)) Q (truth_word (comparison_truth o x y))
         (record {
           truth = comparison_truth o x y;
-          is = compared_is inputs o (operand_in first.form v) (operand_in second.form t) x y env' both.left_word both.right_word both.left both.right;
+          is = laws.comparison_value inputs o (operand_in first.form v) (operand_in second.form t) x y env' both.left.word both.right.word both.left.is both.right.is;
           as_word = refl;
         })))))
 
     -- division
-    pub division_comes : (d : Division) → lowered_operation o a b first second v t ≡ lowered_division d a b first second v t → is_direct o b ≡ is_simple b → ((x y : ℕ) → operation_of o x y ≡ divided y (result_of d x y)) → IsLowered rows words inputs (term.Bin o a b) v t top env
+    pub division_comes : (d : Division) → lowered_operation o a b first second v t ≡ lowered_division d a b first second v t → is_direct o b ≡ is_simple b → ((x y : ℕ) → operation_of o x y ≡ unless_zero Trap y (result_of d x y)) → IsLowered rows words inputs (term.Bin o a b) v t top env
     division_comes d whole direct value_is =
-        let wa : Operand = held_in a first.form v in
-        let wb : Operand = held_in b second.form t in
+        let wa : Operand = division_operand_in a first.form v in
+        let wb : Operand = division_operand_in b second.form t in
         let rest : Block = by_divisor d (constant_of a) (constant_of b) wa wb v in
         let part = left_ready o a b v t top env ready in
         lowered_as (lowered_division d a b first second v t) whole
-        (operands_come rows words inputs a b (held_block a first v) (held_block b second t) rest wa wb v t top env (IsIn inputs v) (λ x y. operation_of o x y)
-        ready.apart.0 ready.apart.1 ready.stands.0 ready.stands.1
-        (held_comes rows words inputs a v t top env (is_simple a) refl part left)
-        (λ env' kept. held_right rows words inputs b v t top env' (is_simple b) refl ready.outside ready.has.1
-        (stands_still rows words inputs b v t top env env' ready.apart.1 kept ready.stands.1)
+        (operands_come rows words inputs a b (division_operand_block a first v) (division_operand_block b second t) rest wa wb v t top env (IsIn v) (λ x y. operation_of o x y)
+        ready.apart.0 ready.apart.1 ready.in_place.0 ready.in_place.1
+        (division_operand_comes rows words inputs laws a v t top env (is_simple a) refl part left)
+        (λ env' kept. division_right_comes rows words inputs laws b v t top env' (is_simple b) refl ready.outside ready.has.1
+        (still_in_place rows words inputs b v t top env env' ready.apart.1 kept ready.in_place.1)
         (λ e. kept_right_ready env' kept (direct ∙ e)))
         (λ x y env' kept both.
-        subst (λ g. Comes inputs rest env' v t top (IsIn inputs v) g) (sym (value_is x y))
-        (divisor_comes inputs d x y env' v t top (constant_of a) (constant_of b) wa wb both.left_word both.right_word (inside_still env' kept) both.known_left both.known_right both.left both.right)))
+        subst (λ g. ComesTo inputs rest env' v t top (IsIn v) g) (sym (value_is x y))
+        (assigns_comes inputs rest env' v t top (unless_zero Trap y (result_of d x y)) (inside_still env' kept) (word_unless_zero y (result_of d x y) (laws.division_word d x y))
+        (laws.division_assigns inputs d (constant_of a) (constant_of b) wa wb x y v env' both.left both.right))))
 
   operation_comes : (o : BinOp) (a b : Term) (v t top : ℕ) (env : List ℕ) → Ready rows words inputs (term.Bin o a b) v t top env → IsLowered rows words inputs a v t top env → LowersRight b t top → IsLowered rows words inputs (term.Bin o a b) v t top env
   operation_comes sign.Add a b v t top env ready left lower = arithmetic_comes sign.Add a b v t top env ready left lower (is_plain a && is_plain b) refl refl refl refl (λ x y. refl)
@@ -267,28 +245,28 @@ module _ (rows words : List ℕ) (inputs : List Input) where
   abbrev LowersPart : Term → ℕ → ℕ → ℕ → Type 0
   LowersPart e v t top = (env : List ℕ) → Ready rows words inputs e v t top env → IsLowered rows words inputs e v t top env
 
-  abbrev condition_of : Term → ℕ → ℕ → Test
-  condition_of e v t = condition_in (lowered rows e v t).form v
+  abbrev part_test : Term → ℕ → ℕ → Test
+  part_test e v t = condition_in (lowered_term rows e v t).form v
 
-  part_condition : (e : Term) (v t top : ℕ) (env : List ℕ) → Ready rows words inputs e v t top env → IsLowered rows words inputs e v t top env → Comes inputs (lowered rows e v t).block env v t top (IsCondition rows words inputs (condition_of e v t)) (value e words inputs)
+  part_condition : (e : Term) (v t top : ℕ) (env : List ℕ) → Ready rows words inputs e v t top env → IsLowered rows words inputs e v t top env → ComesTo inputs (lowered_term rows e v t).block env v t top (IsCondition rows words inputs (part_test e v t)) (value e words inputs)
   part_condition e v t top env ready h =
-      condition_comes rows words inputs e (lowered rows e v t).block (lowered rows e v t).form v t top env (value e words inputs) ready.apart ready.stands h
+      condition_comes rows words inputs e (lowered_term rows e v t).block (lowered_term rows e v t).form v t top env (value e words inputs) ready.apart ready.in_place h
 
-  part_target : (e : Term) (v t top : ℕ) (env : List ℕ) → Ready rows words inputs e v t top env → IsLowered rows words inputs e v t top env → Comes inputs (into (lowered rows e v t) v) env v t top (IsIn inputs v) (value e words inputs)
+  part_target : (e : Term) (v t top : ℕ) (env : List ℕ) → Ready rows words inputs e v t top env → IsLowered rows words inputs e v t top env → ComesTo inputs (into (lowered_term rows e v t) v) env v t top (IsIn v) (value e words inputs)
   part_target e v t top env ready h =
-      target_comes rows words inputs e (lowered rows e v t).block (lowered rows e v t).form v t top env (value e words inputs) ready.inside ready.apart ready.stands h
+      target_comes rows words inputs e (lowered_term rows e v t).block (lowered_term rows e v t).form v t top env (value e words inputs) ready.inside ready.apart ready.in_place h
 
   -- the truth of the second part is put into the target
-  second_truth : (e : Term) (v t top : ℕ) (env : List ℕ) → Ready rows words inputs e v t top env → IsLowered rows words inputs e v t top env → Comes inputs (join (lowered rows e v t).block (set_truth v (condition_of e v t))) env v t top (IsIn inputs v) (with_value (value e words inputs) (λ y. Is (choice y 0 1)))
+  second_truth : (e : Term) (v t top : ℕ) (env : List ℕ) → Ready rows words inputs e v t top env → IsLowered rows words inputs e v t top env → ComesTo inputs (join (lowered_term rows e v t).block (set_truth v (part_test e v t))) env v t top (IsIn v) (with_value (value e words inputs) (λ y. Is (choice y 0 1)))
   second_truth e v t top env ready h =
-      then_comes inputs (lowered rows e v t).block (set_truth v (condition_of e v t)) env v t top (IsCondition rows words inputs (condition_of e v t)) (IsIn inputs v) (value e words inputs) (λ y. Is (choice y 0 1))
+      then_comes inputs (lowered_term rows e v t).block (set_truth v (part_test e v t)) env v t top (IsCondition rows words inputs (part_test e v t)) (IsIn v) (value e words inputs) (λ y. Is (choice y 0 1))
       (part_condition e v t top env ready h)
       (λ y env' word kept is.
-      subst (λ n. Arrives inputs (set_truth v (condition_of e v t)) env' v t top (IsIn inputs v) n) (sym (truth_choice y))
-      (set_truth_comes inputs env' v t top (condition_of e v t) (is_true y) (subst (λ n. v < n) (sym kept.same) ready.inside) is))
+      subst (λ n. GoesOn inputs (set_truth v (part_test e v t)) env' v t top (IsIn v) n) (sym (truth_choice y))
+      (set_truth_comes inputs env' v t top (part_test e v t) (is_true y) (subst (λ n. v < n) (sym kept.same) ready.inside) is))
 
   -- a second part that needs no statements: its test is looked at in the same state
-  bare_test : (block : Block) (c both : Test) (v t top : ℕ) (env : List ℕ) (g : Got ℕ) → block ≡ Nil → ((y : ℕ) → test_value inputs c env ≡ Is (is_true y) → test_value inputs both env ≡ Is (is_true y)) → Comes inputs block env v t top (IsCondition rows words inputs c) g → Comes inputs Nil env v t top (λ x env'. HasTruth rows words inputs both env' x) (with_value g (λ y. Is (choice y 0 1)))
+  bare_test : (block : Block) (c both : Test) (v t top : ℕ) (env : List ℕ) (g : Got ℕ) → block ≡ Nil → ((y : ℕ) → test_value inputs c env ≡ Is (is_true y) → test_value inputs both env ≡ Is (is_true y)) → ComesTo inputs block env v t top (IsCondition rows words inputs c) g → ComesTo inputs Nil env v t top (λ x env'. HasTruth rows words inputs both env' x) (with_value g (λ y. Is (choice y 0 1)))
   bare_test block c both v t top env (Is y) empty test h =
       let here : Runs [] env 0 ≡ Runs [] h.env' 0 = ap (λ b. run inputs b env 0) (sym empty) ∙ h.runs 0 in
       let same : h.env' ≡ env = cc in
@@ -313,141 +291,143 @@ module _ (rows words : List ℕ) (inputs : List Input) where
     inside_second env' kept = subst (λ n. v < n) (sym kept.same) ready_b.inside
 
     abbrev first_block : Block
-    first_block = (lowered rows a v t).block
+    first_block = (lowered_term rows a v t).block
 
     abbrev second_block : Block
-    second_block = (lowered rows b v t).block
+    second_block = (lowered_term rows b v t).block
 
-    -- ---- and
+    -- the second part is looked at only where the first one doesn't decide
+    abbrev decided : Connective → ℕ → Got ℕ → Got ℕ
+    decided Conjunction x rest = choice x (Is 0) rest
+    decided Disjunction x rest = choice x rest (Is 1)
 
-    both_tested : (x : ℕ) (env' : List ℕ) → second_block ≡ Nil → Kept v t top env env' → test_value inputs (condition_of a v t) env' ≡ Is (is_true x) → Comes inputs Nil env' v t top (λ y e. HasTruth rows words inputs (Both (condition_of a v t) (condition_of b v t)) e y) (choice x (Is 0) (with_value (value b words inputs) (λ y. Is (choice y 0 1))))
-    both_tested zero env' empty kept is =
-        nothing_comes inputs env' v t top 0 (λ y e. HasTruth rows words inputs (Both (condition_of a v t) (condition_of b v t)) e y) (omega arith)
-        (record { truth = false; is = rw (is) refl; as_word = refl })
-    both_tested (suc x) env' empty kept is =
-        bare_test second_block (condition_of b v t) (Both (condition_of a v t) (condition_of b v t)) v t top env' (value b words inputs) empty
-        (λ y h. rw (is) h) (part_condition b v t top env' (ready_second env' kept) (lower env' (ready_second env' kept)))
+    abbrev second_value : Got ℕ
+    second_value = with_value (value b words inputs) (λ y. Is (choice y 0 1))
 
-    and_chosen : (x : ℕ) (env' : List ℕ) → Kept v t top env env' → test_value inputs (condition_of a v t) env' ≡ Is (is_true x) → Comes inputs (Cons (If (condition_of a v t) (join second_block (set_truth v (condition_of b v t))) (set v (Const 0))) Nil) env' v t top (IsIn inputs v) (choice x (Is 0) (with_value (value b words inputs) (λ y. Is (choice y 0 1))))
-    and_chosen zero env' kept is =
-        second_comes inputs (condition_of a v t) (join second_block (set_truth v (condition_of b v t))) (set v (Const 0)) env' v t top (IsIn inputs v) (Is 0) is
-        (set_comes inputs env' v t top (Const 0) 0 (inside_second env' kept) (omega arith) refl)
-    and_chosen (suc x) env' kept is =
-        first_comes inputs (condition_of a v t) (join second_block (set_truth v (condition_of b v t))) (set v (Const 0)) env' v t top (IsIn inputs v) (with_value (value b words inputs) (λ y. Is (choice y 0 1))) is
-        (second_truth b v t top env' (ready_second env' kept) (lower env' (ready_second env' kept)))
+    abbrev both_test : Connective → Test
+    both_test o = connected_test o (part_test a v t) (part_test b v t)
 
-    and_comes : (empty : Bool) → is_empty second_block ≡ empty → IsLowered rows words inputs (term.And a b) v t top env
-    and_comes true is =
-        let Q : ℕ → List ℕ → Type 0 = λ y e. HasTruth rows words inputs (Both (condition_of a v t) (condition_of b v t)) e y in
+    abbrev IsBothTruth : Connective → ℕ → List ℕ → Type 0
+    IsBothTruth o y env' = HasTruth rows words inputs (both_test o) env' y
+
+    abbrev second_put : Block
+    second_put = join second_block (set_truth v (part_test b v t))
+
+    -- the first part decides
+    decided_test : (o : Connective) (truth : Bool) (env' : List ℕ) → test_value inputs (both_test o) env' ≡ Is truth → ComesTo inputs Nil env' v t top (IsBothTruth o) (Is (truth_of truth))
+    decided_test o truth env' is =
+        nothing_comes inputs env' v t top (truth_of truth) (IsBothTruth o) (truth_word truth) (record { truth = truth; is = is; as_word = refl })
+
+    -- the second part decides, whose test is that of both then
+    second_test : (o : Connective) (env' : List ℕ) → second_block ≡ Nil → Kept v t top env env' → ((y : ℕ) → test_value inputs (part_test b v t) env' ≡ Is (is_true y) → test_value inputs (both_test o) env' ≡ Is (is_true y)) → ComesTo inputs Nil env' v t top (IsBothTruth o) second_value
+    second_test o env' empty kept same =
+        bare_test second_block (part_test b v t) (both_test o) v t top env' (value b words inputs) empty same
+        (part_condition b v t top env' (ready_second env' kept) (lower env' (ready_second env' kept)))
+
+    connective_tested : (o : Connective) (x : ℕ) (env' : List ℕ) → second_block ≡ Nil → Kept v t top env env' → test_value inputs (part_test a v t) env' ≡ Is (is_true x) → ComesTo inputs Nil env' v t top (IsBothTruth o) (decided o x second_value)
+    connective_tested Conjunction zero env' empty kept is = decided_test Conjunction false env' (rw (is) refl)
+    connective_tested Conjunction (suc x) env' empty kept is = second_test Conjunction env' empty kept (λ y h. rw (is) h)
+    connective_tested Disjunction zero env' empty kept is = second_test Disjunction env' empty kept (λ y h. rw (is) h)
+    connective_tested Disjunction (suc x) env' empty kept is = decided_test Disjunction true env' (rw (is) refl)
+
+    second_chosen : (env' : List ℕ) → Kept v t top env env' → ComesTo inputs second_put env' v t top (IsIn v) second_value
+    second_chosen env' kept = second_truth b v t top env' (ready_second env' kept) (lower env' (ready_second env' kept))
+
+    constant_chosen : (env' : List ℕ) (c : ℕ) → Kept v t top env env' → c < 2 ^ 64 → ComesTo inputs (set v (Const c)) env' v t top (IsIn v) (Is c)
+    constant_chosen env' c kept word = set_comes inputs env' v t top (Const c) c (inside_second env' kept) word refl
+
+    connective_chosen : (o : Connective) (x : ℕ) (env' : List ℕ) → Kept v t top env env' → test_value inputs (part_test a v t) env' ≡ Is (is_true x) → ComesTo inputs (connected_block o (part_test a v t) second_put v) env' v t top (IsIn v) (decided o x second_value)
+    connective_chosen Conjunction zero env' kept is =
+        second_comes inputs (part_test a v t) second_put (set v (Const 0)) env' v t top (IsIn v) (Is 0) is (constant_chosen env' 0 kept (omega arith))
+    connective_chosen Conjunction (suc x) env' kept is =
+        first_comes inputs (part_test a v t) second_put (set v (Const 0)) env' v t top (IsIn v) second_value is (second_chosen env' kept)
+    connective_chosen Disjunction zero env' kept is =
+        second_comes inputs (part_test a v t) (set v (Const 1)) second_put env' v t top (IsIn v) second_value is (second_chosen env' kept)
+    connective_chosen Disjunction (suc x) env' kept is =
+        first_comes inputs (part_test a v t) (set v (Const 1)) second_put env' v t top (IsIn v) (Is 1) is (constant_chosen env' 1 kept (omega arith))
+
+    connective_comes : (o : Connective) (e : Term) (empty : Bool) → is_empty second_block ≡ empty → ComesTo inputs (lowered_connective o (lowered_test rows a v t) (lowered_test rows b v t) v).block env v t top (IsFound rows words inputs e (connective_form o (part_test a v t) (lowered_test rows b v t)) v) (with_value (value a words inputs) (λ x. decided o x second_value))
+    connective_comes o e true is =
         rw (is)
-        (subst (λ block. Comes inputs block env v t top Q (value (term.And a b) words inputs)) (join-nil first_block)
-        (then_comes inputs first_block Nil env v t top (IsCondition rows words inputs (condition_of a v t)) Q (value a words inputs) (λ x. choice x (Is 0) (with_value (value b words inputs) (λ y. Is (choice y 0 1))))
+        (then_comes inputs first_block Nil env v t top (IsCondition rows words inputs (part_test a v t)) (IsBothTruth o) (value a words inputs) (λ x. decided o x second_value)
         (part_condition a v t top env ready_a left)
-        (λ x env' word kept h. both_tested x env' (empty_is second_block is) kept h)))
-    and_comes false is =
+        (λ x env' word kept h. connective_tested o x env' (empty_is second_block is) kept h))
+    connective_comes o e false is =
         rw (is)
-        (then_comes inputs first_block (Cons (If (condition_of a v t) (join second_block (set_truth v (condition_of b v t))) (set v (Const 0))) Nil) env v t top (IsCondition rows words inputs (condition_of a v t)) (IsIn inputs v) (value a words inputs) (λ x. choice x (Is 0) (with_value (value b words inputs) (λ y. Is (choice y 0 1))))
+        (then_comes inputs first_block (connected_block o (part_test a v t) second_put v) env v t top (IsCondition rows words inputs (part_test a v t)) (IsIn v) (value a words inputs) (λ x. decided o x second_value)
         (part_condition a v t top env ready_a left)
-        (λ x env' word kept h. and_chosen x env' kept h))
-
-    -- ---- or
-
-    either_tested : (x : ℕ) (env' : List ℕ) → second_block ≡ Nil → Kept v t top env env' → test_value inputs (condition_of a v t) env' ≡ Is (is_true x) → Comes inputs Nil env' v t top (λ y e. HasTruth rows words inputs (Either (condition_of a v t) (condition_of b v t)) e y) (choice x (with_value (value b words inputs) (λ y. Is (choice y 0 1))) (Is 1))
-    either_tested zero env' empty kept is =
-        bare_test second_block (condition_of b v t) (Either (condition_of a v t) (condition_of b v t)) v t top env' (value b words inputs) empty
-        (λ y h. rw (is) h) (part_condition b v t top env' (ready_second env' kept) (lower env' (ready_second env' kept)))
-    either_tested (suc x) env' empty kept is =
-        nothing_comes inputs env' v t top 1 (λ y e. HasTruth rows words inputs (Either (condition_of a v t) (condition_of b v t)) e y) (omega arith)
-        (record { truth = true; is = rw (is) refl; as_word = refl })
-
-    or_chosen : (x : ℕ) (env' : List ℕ) → Kept v t top env env' → test_value inputs (condition_of a v t) env' ≡ Is (is_true x) → Comes inputs (Cons (If (condition_of a v t) (set v (Const 1)) (join second_block (set_truth v (condition_of b v t)))) Nil) env' v t top (IsIn inputs v) (choice x (with_value (value b words inputs) (λ y. Is (choice y 0 1))) (Is 1))
-    or_chosen zero env' kept is =
-        second_comes inputs (condition_of a v t) (set v (Const 1)) (join second_block (set_truth v (condition_of b v t))) env' v t top (IsIn inputs v) (with_value (value b words inputs) (λ y. Is (choice y 0 1))) is
-        (second_truth b v t top env' (ready_second env' kept) (lower env' (ready_second env' kept)))
-    or_chosen (suc x) env' kept is =
-        first_comes inputs (condition_of a v t) (set v (Const 1)) (join second_block (set_truth v (condition_of b v t))) env' v t top (IsIn inputs v) (Is 1) is
-        (set_comes inputs env' v t top (Const 1) 1 (inside_second env' kept) (omega arith) refl)
-
-    or_comes : (empty : Bool) → is_empty second_block ≡ empty → IsLowered rows words inputs (term.Or a b) v t top env
-    or_comes true is =
-        let Q : ℕ → List ℕ → Type 0 = λ y e. HasTruth rows words inputs (Either (condition_of a v t) (condition_of b v t)) e y in
-        rw (is)
-        (subst (λ block. Comes inputs block env v t top Q (value (term.Or a b) words inputs)) (join-nil first_block)
-        (then_comes inputs first_block Nil env v t top (IsCondition rows words inputs (condition_of a v t)) Q (value a words inputs) (λ x. choice x (with_value (value b words inputs) (λ y. Is (choice y 0 1))) (Is 1))
-        (part_condition a v t top env ready_a left)
-        (λ x env' word kept h. either_tested x env' (empty_is second_block is) kept h)))
-    or_comes false is =
-        rw (is)
-        (then_comes inputs first_block (Cons (If (condition_of a v t) (set v (Const 1)) (join second_block (set_truth v (condition_of b v t)))) Nil) env v t top (IsCondition rows words inputs (condition_of a v t)) (IsIn inputs v) (value a words inputs) (λ x. choice x (with_value (value b words inputs) (λ y. Is (choice y 0 1))) (Is 1))
-        (part_condition a v t top env ready_a left)
-        (λ x env' word kept h. or_chosen x env' kept h))
+        (λ x env' word kept h. connective_chosen o x env' kept h))
 
   -- ---- if
 
   module _ (c a b : Term) (v t top : ℕ) (env : List ℕ) (ready_c : Ready rows words inputs c v t top env) (ready_a : Ready rows words inputs a v t top env) (ready_b : Ready rows words inputs b v t top env) (condition : IsLowered rows words inputs c v t top env) (lower_a : LowersPart a v t top) (lower_b : LowersPart b v t top) where
     abbrev choice_block : Block
-    choice_block = Cons (If (condition_of c v t) (into (lowered rows a v t) v) (into (lowered rows b v t) v)) Nil
+    choice_block = Cons (If (part_test c v t) (into (lowered_term rows a v t) v) (into (lowered_term rows b v t) v)) Nil
 
-    branch_chosen : (x : ℕ) (env' : List ℕ) → Kept v t top env env' → test_value inputs (condition_of c v t) env' ≡ Is (is_true x) → Comes inputs choice_block env' v t top (IsIn inputs v) (choice x (value b words inputs) (value a words inputs))
+    branch_chosen : (x : ℕ) (env' : List ℕ) → Kept v t top env env' → test_value inputs (part_test c v t) env' ≡ Is (is_true x) → ComesTo inputs choice_block env' v t top (IsIn v) (choice x (value b words inputs) (value a words inputs))
     branch_chosen zero env' kept is =
         let ready = still_ready rows words inputs b v t top env env' kept ready_b in
-        second_comes inputs (condition_of c v t) (into (lowered rows a v t) v) (into (lowered rows b v t) v) env' v t top (IsIn inputs v) (value b words inputs) is
+        second_comes inputs (part_test c v t) (into (lowered_term rows a v t) v) (into (lowered_term rows b v t) v) env' v t top (IsIn v) (value b words inputs) is
         (part_target b v t top env' ready (lower_b env' ready))
     branch_chosen (suc x) env' kept is =
         let ready = still_ready rows words inputs a v t top env env' kept ready_a in
-        first_comes inputs (condition_of c v t) (into (lowered rows a v t) v) (into (lowered rows b v t) v) env' v t top (IsIn inputs v) (value a words inputs) is
+        first_comes inputs (part_test c v t) (into (lowered_term rows a v t) v) (into (lowered_term rows b v t) v) env' v t top (IsIn v) (value a words inputs) is
         (part_target a v t top env' ready (lower_a env' ready))
 
     choice_comes : IsLowered rows words inputs (term.If c a b) v t top env
     choice_comes =
-        then_comes inputs (lowered rows c v t).block choice_block env v t top (IsCondition rows words inputs (condition_of c v t)) (IsIn inputs v) (value c words inputs) (λ x. choice x (value b words inputs) (value a words inputs))
+        then_comes inputs (lowered_term rows c v t).block choice_block env v t top (IsCondition rows words inputs (part_test c v t)) (IsIn v) (value c words inputs) (λ x. choice x (value b words inputs) (value a words inputs))
         (part_condition c v t top env ready_c condition)
         (λ x env' word kept h. branch_chosen x env' kept h)
 
   -- ---- the parts of a choice are ready
 
-  part_ready : (e whole : Term) (v t top : ℕ) (env : List ℕ) → temps_of e ≤ temps_of whole → HasWords e → IsApart rows v t top e → Stands rows words inputs e env → Ready rows words inputs whole v t top env → Ready rows words inputs e v t top env
-  part_ready e whole v t top env fewer has apart stands ready = record {
+  part_ready : (e whole : Term) (v t top : ℕ) (env : List ℕ) → temps_of e ≤ temps_of whole → EachLeaf IsWordLeaf e → IsDisjoint rows v t top e → WordsInPlace rows words inputs env e → Ready rows words inputs whole v t top env → Ready rows words inputs e v t top env
+  part_ready e whole v t top env fewer has apart in_place ready = record {
     has = has;
     outside = ready.outside;
     room = omega (arith, fewer, ready.room);
     inside = ready.inside;
     within = ready.within;
     apart = apart;
-    stands = stands;
+    in_place = in_place;
   }
 
   -- ---- every expression
 
   pub lowers : (e : Term) (v t top : ℕ) (env : List ℕ) → Ready rows words inputs e v t top env → IsLowered rows words inputs e v t top env
-  lowers (term.Lit c) v t top env ready = plain_comes rows words inputs (term.Lit c) v t top env refl ready
-  lowers (term.Truth b) v t top env ready = plain_comes rows words inputs (term.Truth b) v t top env refl ready
-  lowers (term.Var k) v t top env ready = plain_comes rows words inputs (term.Var k) v t top env refl ready
-  lowers (term.Param k) v t top env ready = plain_comes rows words inputs (term.Param k) v t top env refl ready
-  lowers (term.Len k) v t top env ready = plain_comes rows words inputs (term.Len k) v t top env refl ready
+  lowers (term.Lit c) v t top env ready = plain_comes rows words inputs laws (term.Lit c) v t top env refl ready
+  lowers (term.Truth b) v t top env ready = plain_comes rows words inputs laws (term.Truth b) v t top env refl ready
+  lowers (term.Var k) v t top env ready = plain_comes rows words inputs laws (term.Var k) v t top env refl ready
+  lowers (term.Param k) v t top env ready = plain_comes rows words inputs laws (term.Param k) v t top env refl ready
+  lowers (term.Len k) v t top env ready = plain_comes rows words inputs laws (term.Len k) v t top env refl ready
   lowers (term.Neg a) v t top env ready =
-      let part = part_ready a (term.Neg a) v t top env (omega arith) ready.has ready.apart ready.stands ready in
+      let part = part_ready a (term.Neg a) v t top env (omega arith) ready.has ready.apart ready.in_place ready in
       minus_comes a v t top env (is_plain a) refl ready part (lowers a v t top env part)
   lowers (term.Not a) v t top env ready =
-      let part = part_ready a (term.Not a) v t top env (omega arith) ready.has ready.apart ready.stands ready in
+      let part = part_ready a (term.Not a) v t top env (omega arith) ready.has ready.apart ready.in_place ready in
       not_comes a v t top env part (lowers a v t top env part)
   lowers (term.Bin o a b) v t top env ready =
       operation_comes o a b v t top env ready (lowers a v t top env (left_ready o a b v t top env ready))
       (λ env' part. lowers b t (t + 1) top env' part)
   lowers (term.And a b) v t top env ready =
-      let first = part_ready a (term.And a b) v t top env (omega arith) ready.has.0 ready.apart.0 ready.stands.0 ready in
-      let second = part_ready b (term.And a b) v t top env (omega arith) ready.has.1 ready.apart.1 ready.stands.1 ready in
-      and_comes a b v t top env first second (lowers a v t top env first) (λ env' part. lowers b v t top env' part) (is_empty (lowered rows b v t).block) refl
+      let first = part_ready a (term.And a b) v t top env (omega arith) ready.has.0 ready.apart.0 ready.in_place.0 ready in
+      let second = part_ready b (term.And a b) v t top env (omega arith) ready.has.1 ready.apart.1 ready.in_place.1 ready in
+      connective_comes a b v t top env first second (lowers a v t top env first) (λ env' part. lowers b v t top env' part) Conjunction (term.And a b) (is_empty (lowered_term rows b v t).block) refl
   lowers (term.Or a b) v t top env ready =
-      let first = part_ready a (term.Or a b) v t top env (omega arith) ready.has.0 ready.apart.0 ready.stands.0 ready in
-      let second = part_ready b (term.Or a b) v t top env (omega arith) ready.has.1 ready.apart.1 ready.stands.1 ready in
-      or_comes a b v t top env first second (lowers a v t top env first) (λ env' part. lowers b v t top env' part) (is_empty (lowered rows b v t).block) refl
+      let first = part_ready a (term.Or a b) v t top env (omega arith) ready.has.0 ready.apart.0 ready.in_place.0 ready in
+      let second = part_ready b (term.Or a b) v t top env (omega arith) ready.has.1 ready.apart.1 ready.in_place.1 ready in
+      connective_comes a b v t top env first second (lowers a v t top env first) (λ env' part. lowers b v t top env' part) Disjunction (term.Or a b) (is_empty (lowered_term rows b v t).block) refl
   lowers (term.If c a b) v t top env ready =
-      let first = part_ready c (term.If c a b) v t top env (omega arith) ready.has.0 ready.apart.0 ready.stands.0 ready in
-      let second = part_ready a (term.If c a b) v t top env (omega arith) ready.has.1.0 ready.apart.1.0 ready.stands.1.0 ready in
-      let third = part_ready b (term.If c a b) v t top env (omega arith) ready.has.1.1 ready.apart.1.1 ready.stands.1.1 ready in
+      let first = part_ready c (term.If c a b) v t top env (omega arith) ready.has.0 ready.apart.0 ready.in_place.0 ready in
+      let second = part_ready a (term.If c a b) v t top env (omega arith) ready.has.1.0 ready.apart.1.0 ready.in_place.1.0 ready in
+      let third = part_ready b (term.If c a b) v t top env (omega arith) ready.has.1.1 ready.apart.1.1 ready.in_place.1.1 ready in
       choice_comes c a b v t top env first second third (lowers c v t top env first) (λ env' part. lowers a v t top env' part) (λ env' part. lowers b v t top env' part)
 
   -- the statements of an expression put its value into the target, or return 1
-  pub value_comes : (e : Term) (v t top : ℕ) (env : List ℕ) → Ready rows words inputs e v t top env → Comes inputs (into (lowered rows e v t) v) env v t top (IsIn inputs v) (value e words inputs)
+  pub value_comes : (e : Term) (v t top : ℕ) (env : List ℕ) → Ready rows words inputs e v t top env → ComesTo inputs (into (lowered_term rows e v t) v) env v t top (IsIn v) (value e words inputs)
   value_comes e v t top env ready = part_target e v t top env ready (lowers e v t top env ready)
+
+  -- and those of a condition tell whether it is true
+  pub condition_comes_true : (e : Term) (v t top : ℕ) (env : List ℕ) → Ready rows words inputs e v t top env → ComesTo inputs (lowered_term rows e v t).block env v t top (IsCondition rows words inputs (part_test e v t)) (value e words inputs)
+  condition_comes_true e v t top env ready = part_condition e v t top env ready (lowers e v t top env ready)

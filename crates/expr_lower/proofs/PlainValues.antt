@@ -1,5 +1,5 @@
 -- A plain expression needs no statements: it is one word of the C text, and has a value.
-use Rattle.std.proofs.Common.{◌≡◌, ℕ, ◌+◌, ◌-◌, ◌*◌, ◌<◌, ◌^◌, ◌%◌, Bool, true, false, ◌&&◌, List, length, refl, ap, arith}
+use Rattle.std.proofs.Common.{◌≡◌, ℕ, ◌+◌, ◌-◌, ◌*◌, ◌<◌, ◌^◌, Bool, true, false, ◌&&◌, List, length, refl, ap, arith}
 use Rattle.std.specs.Prelude.{slice_index, slice_get, IsTrue}
 use Rattle.std.proofs.Math.Nat.{mod-lt}
 use Rattle.strm_num.proofs.Truths.{both_true}
@@ -15,10 +15,11 @@ use Rattle.loop_ir.specs.declared.syntax.WOp.{WOp}
 use Rattle.loop_ir.specs.declared.syntax.WOp.TheVariants as op
 use Rattle.loop_ir.specs.Statements.{Operand, Const, Var, Len, Int, Bin}
 use Rattle.loop_ir.specs.Meaning.{operand_value, word_operation}
-use Rattle.expr_lower.specs.Phrases.{minus}
-use Rattle.expr_lower.specs.Lowering.{as_word, lowered_minus, lowered_operation, lowered}
+use Rattle.expr_phrases.specs.Phrases.{minus}
+use Rattle.expr_lower.specs.Laws.{Laws}
+use Rattle.expr_lower.specs.Lowering.{as_word, lowered_minus, lowered_operation, lowered_term}
 use Rattle.expr_lower.specs.Costs.{is_arithmetic, is_plain}
-use Rattle.expr_lower.specs.Scopes.{HasWords, Stands}
+use Rattle.expr_lower.specs.Scopes.{EachLeaf, IsWordLeaf, WordsInPlace}
 
 abbrev pub arithmetic_operator : BinOp → WOp
 arithmetic_operator sign.Sub = op.Sub
@@ -34,10 +35,6 @@ pub arithmetic_word : (o : BinOp) (x y : ℕ) → arithmetic_value o x y < 2 ^ 6
 arithmetic_word sign.Sub x y = mod-lt (x + (2 ^ 64 - y)) (omega arith)
 arithmetic_word sign.Mul x y = mod-lt (x * y) (omega arith)
 arithmetic_word _ x y = mod-lt (x + y) (omega arith)
-
--- what is left of 2 ^ 64 is the negation
-pub minus_is : (x : ℕ) → difference_of 0 x ≡ negation_of x
-minus_is x = let e : 0 + (2 ^ 64 - x) ≡ 2 ^ 64 - x = omega arith in ap (λ n. n % 2 ^ 64) e
 
 -- ---- the word of a plain expression. The last case of these stands for what isn't plain
 
@@ -78,7 +75,7 @@ operation_lowered sign.Sub x y wa wb v t h = refl
 operation_lowered sign.Mul x y wa wb v t h = refl
 operation_lowered _ x y wa wb v t h = absurd cc
 
-pub plain_lowered : (rows : List ℕ) (e : Term) (v t : ℕ) → IsTrue (is_plain e) → lowered rows e v t ≡ as_word (plain_word rows e)
+pub plain_lowered : (rows : List ℕ) (e : Term) (v t : ℕ) → IsTrue (is_plain e) → lowered_term rows e v t ≡ as_word (plain_word rows e)
 plain_lowered rows (term.Lit c) v t plain = refl
 plain_lowered rows (term.Truth b) v t plain = refl
 plain_lowered rows (term.Var k) v t plain = refl
@@ -123,26 +120,28 @@ truth_word true = omega arith
 truth_word false = omega arith
 
 module _ (rows words : List ℕ) (inputs : List Input) where
-  -- the word has the value, in all states in which the words that are read stand in their variables
-  pub plain_holds : (e : Term) (env : List ℕ) → IsTrue (is_plain e) → Stands rows words inputs e env → operand_value inputs (plain_word rows e) env ≡ Is (plain_value e words inputs)
-  plain_holds (term.Lit c) env plain stands = refl
-  plain_holds (term.Truth b) env plain stands = refl
-  plain_holds (term.Var k) env plain stands = ap Is stands.0
-  plain_holds (term.Param k) env plain stands = refl
-  plain_holds (term.Len k) env plain stands = refl
-  plain_holds (term.Neg a) env plain stands = rw (plain_holds a env plain stands) (ap Is (minus_is (plain_value a words inputs)))
-  plain_holds (term.Bin o a b) env plain stands =
-      let parts = plain_parts o a b plain in
-      rw (plain_holds a env parts.left stands.0, plain_holds b env parts.right stands.1)
-      (operation_word o (plain_value a words inputs) (plain_value b words inputs) parts.operator)
-  plain_holds _ env plain stands = absurd cc
+  pub plain_is_word : (e : Term) (env : List ℕ) → IsTrue (is_plain e) → EachLeaf IsWordLeaf e → WordsInPlace rows words inputs env e → plain_value e words inputs < 2 ^ 64
+  plain_is_word (term.Lit c) env plain has in_place = has
+  plain_is_word (term.Truth b) env plain has in_place = truth_word b
+  plain_is_word (term.Var k) env plain has in_place = in_place.word
+  plain_is_word (term.Param k) env plain has in_place = in_place
+  plain_is_word (term.Len k) env plain has in_place = in_place
+  plain_is_word (term.Neg a) env plain has in_place = mod-lt (2 ^ 64 - plain_value a words inputs) (omega arith)
+  plain_is_word (term.Bin o a b) env plain has in_place = arithmetic_word o (plain_value a words inputs) (plain_value b words inputs)
+  plain_is_word _ env plain has in_place = absurd cc
 
-  pub plain_is_word : (e : Term) (env : List ℕ) → IsTrue (is_plain e) → HasWords e → Stands rows words inputs e env → plain_value e words inputs < 2 ^ 64
-  plain_is_word (term.Lit c) env plain has stands = has
-  plain_is_word (term.Truth b) env plain has stands = truth_word b
-  plain_is_word (term.Var k) env plain has stands = stands.1
-  plain_is_word (term.Param k) env plain has stands = stands
-  plain_is_word (term.Len k) env plain has stands = stands
-  plain_is_word (term.Neg a) env plain has stands = mod-lt (2 ^ 64 - plain_value a words inputs) (omega arith)
-  plain_is_word (term.Bin o a b) env plain has stands = arithmetic_word o (plain_value a words inputs) (plain_value b words inputs)
-  plain_is_word _ env plain has stands = absurd cc
+  module _ (laws : Laws) where
+    -- the word has the value, in all states in which the words that are read stand in their variables
+    pub plain_holds : (e : Term) (env : List ℕ) → IsTrue (is_plain e) → WordsInPlace rows words inputs env e → operand_value inputs (plain_word rows e) env ≡ Is (plain_value e words inputs)
+    plain_holds (term.Lit c) env plain in_place = refl
+    plain_holds (term.Truth b) env plain in_place = refl
+    plain_holds (term.Var k) env plain in_place = ap Is in_place.same
+    plain_holds (term.Param k) env plain in_place = refl
+    plain_holds (term.Len k) env plain in_place = refl
+    plain_holds (term.Neg a) env plain in_place =
+        laws.minus_value inputs (plain_word rows a) (plain_value a words inputs) env (plain_holds a env plain in_place)
+    plain_holds (term.Bin o a b) env plain in_place =
+        let parts = plain_parts o a b plain in
+        rw (plain_holds a env parts.left in_place.0, plain_holds b env parts.right in_place.1)
+        (operation_word o (plain_value a words inputs) (plain_value b words inputs) parts.operator)
+    plain_holds _ env plain in_place = absurd cc

@@ -4,7 +4,7 @@ use Rattle.list_denotation.specs.declared.expr.BinOp.{BinOp}
 use Rattle.list_denotation.specs.declared.expr.BinOp.TheVariants.{Add, Sub, Mul, Div, Rem, Eq, Ne, Lt, Le, Gt, Ge}
 use Rattle.list_denotation.specs.Terms.{Term, Lit, Truth, Var, Param, Len, Neg, Not, Bin, And, Or, If}
 use Rattle.list_denotation.specs.Typing.{is_division}
-use Rattle.expr_lower.specs.Lowering.{is_simple}
+use Rattle.expr_phrases.specs.Simple.{is_leaf, is_simple}
 
 abbrev pub operation_cost : BinOp → ℕ
 operation_cost Add = 1
@@ -40,15 +40,11 @@ is_arithmetic Sub = true
 is_arithmetic Mul = true
 is_arithmetic _ = false
 
+-- a word of the C text as it is
 abbrev pub is_plain : Term → Bool
-is_plain (Lit c) = true
-is_plain (Truth b) = true
-is_plain (Var k) = true
-is_plain (Param k) = true
-is_plain (Len k) = true
 is_plain (Neg a) = is_plain a
 is_plain (Bin o a b) = is_arithmetic o && (is_plain a && is_plain b)
-is_plain _ = false
+is_plain e = is_leaf e
 
 -- whether a right operand stands in the text as it is
 abbrev pub is_direct : BinOp → Term → Bool

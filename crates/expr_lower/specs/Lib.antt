@@ -1,6 +1,6 @@
-pub mod Phrases
 pub mod Lowering
 pub mod Costs
 pub mod Scopes
 pub mod FormCopies
 pub mod Contract
+pub mod Laws

@@ -1,9 +1,29 @@
 //! Laws of the definitions. These functions do nothing: their contracts are the laws.
 
-ghost use Rattle.std.specs.Prelude.{◌≤◌, ◌*◌};
+ghost use Rattle.std.specs.Prelude.{ℕ, ◌<◌, ◌≤◌, ◌*◌, List, IsTrue, length, slice_index};
+ghost use Rattle.list_denotation.specs.declared.input.Input.{Input};
 ghost use Rattle.list_denotation.specs.Counts.{term_nodes, term_depth};
+ghost use Rattle.list_denotation.specs.Scopes.{is_bound};
 ghost use Rattle.list_denotation.specs.Terms.{Term};
+ghost use Rattle.loop_ir.specs.DeclaredNames.{Names};
+ghost use Rattle.state_alloc.specs.Layouts.{IsLaidOut};
+ghost use Rattle.expr_lower.specs.Contract.{Scope, value_block, condition_block, condition_test, IsTarget, IsLowerable, PutsValue, TellsTruth};
 ghost use Rattle.expr_lower.specs.Costs.{cost, temps_of};
+ghost use Rattle.expr_lower.specs.Laws.{Laws};
+ghost use Rattle.expr_lower.specs.Scopes.{WordsInPlace, ScopeInPlace, MayNameWords};
+
+use expr_phrases::{
+    comparisons_tell_the_signed_order, divisions_assign_signed_results, opposites_negate,
+};
+
+/// What expr_phrases promises of its definitions.
+pub fn laws_below()
+    ensures { Laws }
+{
+    opposites_negate();
+    comparisons_tell_the_signed_order();
+    divisions_assign_signed_results();
+}
 
 /// The cost of an expression is at most 9 for each of its nodes.
 pub fn costs_are_few()
@@ -13,4 +33,38 @@ pub fn costs_are_few()
 /// The temporaries of an expression are at most one for each level of its depth.
 pub fn temporaries_are_few()
     ensures { (e : Term) → temps_of e ≤ term_depth e }
+{}
+
+/// The statements of an expression over words that are laid out put its value into the target, and
+/// those of a condition tell whether it is true; or they return 1 exactly where it traps. They have
+/// no loop, and at most as many statements as the expression's cost, name nothing but what it
+/// names, the target and the temporaries, and their constants are words.
+pub fn expressions_are_lowered()
+    ensures values { (scope : Scope) (next : ℕ) (e : Term) (target : ℕ)
+        → IsLaidOut scope.rows scope.first_temp scope.temps next
+        → IsLowerable scope e target
+        → PutsValue scope e target (value_block scope e target) }
+    ensures conditions { (scope : Scope) (next : ℕ) (e : Term) (scratch : ℕ)
+        → IsLaidOut scope.rows scope.first_temp scope.temps next
+        → IsLowerable scope e scratch
+        → TellsTruth scope e scratch (condition_block scope e scratch)
+        (condition_test scope e scratch) }
+{
+    laws_below();
+}
+
+/// What holds of all words of a scope holds of those that an expression over it reads: a variable
+/// that was not given out is a target, and words that stand in their variables or may be named do.
+pub fn scopes_hold_expressions()
+    ensures target { (scope : Scope) (next : ℕ) (e : Term) (target : ℕ)
+        → IsLaidOut scope.rows scope.first_temp scope.temps next
+        → IsTrue (is_bound (length scope.rows) e) → next ≤ target
+        → IsTarget scope e target }
+    ensures in_place { (rows words : List ℕ) (inputs : List Input) (env : List ℕ) (e : Term)
+        → IsTrue (is_bound (length rows) e) → ScopeInPlace rows words inputs env
+        → WordsInPlace rows words inputs env e }
+    ensures names { (may : Names) (rows : List ℕ) (e : Term)
+        → IsTrue (is_bound (length rows) e)
+        → ((k : ℕ) → k < length rows → IsTrue (may.var (slice_index rows k)))
+        → MayNameWords may rows e }
 {}

@@ -1,24 +1,26 @@
 //! Expressions as statements of loop programs.
 //!
-//! It stands on list_denotation, loop_ir and state_alloc. `specs/Lowering` says which statements an
-//! expression becomes, on plain copies, and `specs/Phrases` has the phrases of unsigned words that
-//! signed arithmetic is printed as. `lower` carries the promise: its statements put the expression's
-//! value into a target variable, or return 1 exactly where it traps; they have no loop, change nothing
+//! It depends on list_denotation, loop_ir, state_alloc and expr_phrases, whose phrases signed
+//! arithmetic is printed as. `specs/Lowering` says which statements an expression becomes, on plain
+//! copies. `lower` and `lower_into` carry the promise: their statements put the expression's value
+//! into a target variable, or return 1 exactly where it traps; they have no loop, change nothing
 //! else but temporaries, name nothing but what the expression names, and are at most as many as its
-//! cost. The laws bound that cost by the nodes and the temporaries by the depth.
+//! cost. `lower_test` says the same of a condition, whose truth is that of a test. The law
+//! `expressions_are_lowered` says all of it of the definitions alone, which is what a proof about
+//! more statements cites, with `scopes_hold_expressions` for expressions over a whole scope. Two
+//! more laws bound the cost by the nodes and the temporaries by the depth.
 #![tactic(auto)]
 
-mod choices;
-mod comparison;
-mod division;
+mod connectives;
 mod forms;
 mod laws;
 mod lowering;
 mod operations;
-mod simple;
 mod statements;
 mod temporaries;
 
-pub use laws::{costs_are_few, temporaries_are_few};
-pub use statements::{lower, lower_into};
+pub use laws::{
+    costs_are_few, expressions_are_lowered, scopes_hold_expressions, temporaries_are_few,
+};
+pub use statements::{lower, lower_into, lower_test};
 pub use temporaries::temps_of;

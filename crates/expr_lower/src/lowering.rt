@@ -1,21 +1,31 @@
 //! The statements of expressions.
 
-ghost use Rattle.std.specs.Prelude.{◌≡◌, ℕ, ◌+◌, ◌<◌, ◌^◌, length, slice_index, EachIndex, IfOk, OnOk};
+ghost use Rattle.std.specs.Prelude.{◌≡◌, ℕ, ◌+◌, ◌<◌, ◌^◌, max, length, slice_index, EachIndex, IfOk, OnOk};
 ghost use Rattle.list_denotation.specs.Copies.{term_of};
-ghost use Rattle.loop_ir.specs.Statements.{join};
-ghost use Rattle.loop_ir.specs.StatementCopies.{operand_of, block_of};
-ghost use Rattle.expr_lower.specs.Lowering.{lowered, lowered_into};
+ghost use Rattle.list_denotation.specs.Terms.{Bin};
+ghost use Rattle.loop_ir.specs.StatementCopies.{test_of};
+ghost use Rattle.expr_lower.specs.Lowering.{lowered_connective, lowered_choice, lowered_term, lowered_into, lowered_test};
 ghost use Rattle.expr_lower.specs.Costs.{temps_of};
-ghost use Rattle.expr_lower.specs.Scopes.{HasWords, IsBound};
+ghost use Rattle.expr_lower.specs.Scopes.{EachLeaf, IsWordLeaf, IsBoundLeaf};
+ghost use Rattle.expr_phrases.specs.PhraseCopies.{connective_of, Appends};
 ghost use Rattle.expr_lower.specs.FormCopies.{form_of};
 
-use crate::choices::{Branch, both, choice, either, refuted};
-use crate::forms::{Form, put};
+use crate::connectives::connected;
+use crate::forms::{Form, condition, put, word};
 use crate::operations::{Part, keep, negated, operation};
-use list_denotation::{Expr, Words};
-use loop_ir::{Stmts, W};
+use expr_phrases::{Connective, opposite};
+use list_denotation::{BinOp, Expr, Words};
+use loop_ir::{Stmt, Stmts, T, W};
 use std::alloc::Global;
 use strm_num::NoMemory;
+
+/// The variables that the statements of an expression may change: its target, and the temporaries
+/// from the first one on.
+#[derive(Clone, Copy)]
+pub struct Frame {
+    pub target: u32,
+    pub first_temp: u32,
+}
 
 /// The variable in which the bound word k stands.
 fn row_variable(rows: &Words, k: u32) -> u32
@@ -27,90 +37,199 @@ fn row_variable(rows: &Words, k: u32) -> u32
 }
 
 /// Appends the statements of `e`, whose bound words stand in the variables `rows`, and says where
-/// its value is once they have run. `v` is the target, and `t` the first temporary.
+/// its value is once they have run.
+#[cycle(terms)]
 #[tactic(auto, using(crate::proofs::Appends::push_steps))]
 fn lower_form(
     alloc: Global,
     e: &Expr,
     rows: &Words,
-    v: u32,
-    t: u32,
+    frame: Frame,
     block: &mut Stmts,
 ) -> Result<Form, NoMemory>
-    requires bound { IsBound (length rows.now) (term_of e.now) }
+    requires bound { EachLeaf (IsBoundLeaf (length rows.now)) (term_of e.now) }
     requires variables { EachIndex rows.now (λ i. slice_index rows.now i < 2 ^ 32) }
-    requires few { t + temps_of (term_of e.now) < 2 ^ 32 }
-    ensures block { OnOk result (block_of block.new ≡ join (block_of block.old) (lowered rows.now (term_of e.now) v t).block) }
-    ensures form { IfOk result (λ f. form_of f ≡ (lowered rows.now (term_of e.now) v t).form) }
-    ensures words { IfOk result (λ f. HasWords (term_of e.now)) }
+    requires few { frame.first_temp + temps_of (term_of e.now) < 2 ^ 32 }
+    ensures block { OnOk result (Appends block.old block.new
+        (lowered_term rows.now (term_of e.now) frame.target frame.first_temp).block) }
+    ensures form { IfOk result (λ f. form_of f
+        ≡ (lowered_term rows.now (term_of e.now) frame.target frame.first_temp).form) }
+    ensures words { OnOk result (EachLeaf IsWordLeaf (term_of e.now)) }
 {
     match e {
-        Expr::Lit(c) => Ok(Form::Word(W::Const(*c))),
-        Expr::Truth(b) => Ok(Form::Word(W::Const(u64::from(*b)))),
-        Expr::Var(k) => Ok(Form::Word(W::Var(row_variable(rows, *k)))),
-        Expr::Param(k) => Ok(Form::Word(W::Int(*k))),
-        Expr::Len(k) => Ok(Form::Word(W::Len(*k))),
+        Expr::Lit(c) => word(alloc, W::Const(*c)),
+        Expr::Truth(b) => word(alloc, W::Const(u64::from(*b))),
+        Expr::Var(k) => word(alloc, W::Var(row_variable(rows, *k))),
+        Expr::Param(k) => word(alloc, W::Int(*k)),
+        Expr::Len(k) => word(alloc, W::Len(*k)),
         Expr::Neg(a) => {
-            let form = lower_form(alloc, a, rows, v, t, block)?;
-            negated(alloc, form, v, block)
+            let form = lower_form(alloc, a, rows, frame, block)?;
+            negated(alloc, form, frame.target, block)
         }
         Expr::Not(a) => {
-            let form = lower_form(alloc, a, rows, v, t, block)?;
-            refuted(alloc, form, v)
+            let holds = lower_condition(alloc, a, rows, frame, block)?;
+            Ok(Form::Test(opposite(alloc, holds)?))
         }
-        Expr::Bin(op, a, b) => {
-            let (a, b): (&Expr, &Expr) = (a, b);
-            let form = lower_form(alloc, a, rows, v, t, block)?;
-            let form = keep(alloc, *op, a, form, v, block)?;
-            let left = Part { e: a, form, at: v };
-            // A right operand that is a word as it stands uses neither t nor a temporary.
-            let form = lower_form(alloc, b, rows, t, t.saturating_add(1), block)?;
-            operation(alloc, *op, left, Part { e: b, form, at: t }, block)
-        }
-        Expr::And(a, b) => {
-            let first = lower_form(alloc, a, rows, v, t, block)?;
-            let mut more = Stmts::new(alloc);
-            let second = lower_form(alloc, b, rows, v, t, &mut more)?;
-            both(alloc, first, more, second, v, block)
-        }
-        Expr::Or(a, b) => {
-            let first = lower_form(alloc, a, rows, v, t, block)?;
-            let mut rest = Stmts::new(alloc);
-            let second = lower_form(alloc, b, rows, v, t, &mut rest)?;
-            either(alloc, first, rest, second, v, block)
-        }
+        Expr::Bin(op, a, b) => lower_operation(alloc, *op, a, b, rows, frame, block),
+        Expr::And(a, b) => lower_connective(alloc, Connective::And, a, b, rows, frame, block),
+        Expr::Or(a, b) => lower_connective(alloc, Connective::Or, a, b, rows, frame, block),
         Expr::If(c, a, b) => {
-            let condition = lower_form(alloc, c, rows, v, t, block)?;
-            let mut then = Stmts::new(alloc);
-            let form = lower_form(alloc, a, rows, v, t, &mut then)?;
-            let first = Branch { block: then, form };
-            let mut otherwise = Stmts::new(alloc);
-            let form = lower_form(alloc, b, rows, v, t, &mut otherwise)?;
-            let second = Branch {
-                block: otherwise,
-                form,
-            };
-            choice(alloc, condition, first, second, v, block)
+            lower_choice(alloc, c, a, b, rows, frame, block)?;
+            Ok(Form::InTarget)
         }
     }
 }
 
-/// Appends the statements that put the value of `e` into v.
-#[tactic(auto, using(loop_ir::proofs::Copies::join_join))]
+/// Appends the statements of an operation. The right operand has the first temporary as its target.
+#[cycle(terms)]
+#[tactic(auto, using(crate::proofs::Appends::push_steps))]
+fn lower_operation(
+    alloc: Global,
+    op: BinOp,
+    a: &Expr,
+    b: &Expr,
+    rows: &Words,
+    frame: Frame,
+    block: &mut Stmts,
+) -> Result<Form, NoMemory>
+    requires bound { EachLeaf (IsBoundLeaf (length rows.now))
+        (Bin op (term_of a.now) (term_of b.now)) }
+    requires variables { EachIndex rows.now (λ i. slice_index rows.now i < 2 ^ 32) }
+    requires few { frame.first_temp + temps_of (Bin op (term_of a.now) (term_of b.now)) < 2 ^ 32 }
+    ensures block { OnOk result (Appends block.old block.new
+        (lowered_term rows.now (Bin op (term_of a.now) (term_of b.now)) frame.target
+        frame.first_temp).block) }
+    ensures form { IfOk result (λ f. form_of f
+        ≡ (lowered_term rows.now (Bin op (term_of a.now) (term_of b.now)) frame.target
+        frame.first_temp).form) }
+    ensures words { OnOk result (EachLeaf IsWordLeaf (Bin op (term_of a.now) (term_of b.now))) }
+{
+    let t = frame.first_temp;
+    let form = lower_form(alloc, a, rows, frame, block)?;
+    let form = keep(alloc, op, a, form, frame.target, block)?;
+    let left = Part {
+        e: a,
+        form,
+        at: frame.target,
+    };
+    // A right operand that is a word as it stands uses neither t nor a temporary.
+    let behind = Frame {
+        target: t,
+        first_temp: t.saturating_add(1),
+    };
+    let form = lower_form(alloc, b, rows, behind, block)?;
+    operation(alloc, op, left, Part { e: b, form, at: t }, block)
+}
+
+/// Appends the statements of `&&` or `||`.
+#[cycle(terms)]
+#[tactic(auto, using(crate::proofs::Appends::push_steps))]
+fn lower_connective(
+    alloc: Global,
+    o: Connective,
+    a: &Expr,
+    b: &Expr,
+    rows: &Words,
+    frame: Frame,
+    block: &mut Stmts,
+) -> Result<Form, NoMemory>
+    requires bound { EachLeaf (IsBoundLeaf (length rows.now)) (term_of a.now)
+        × EachLeaf (IsBoundLeaf (length rows.now)) (term_of b.now) }
+    requires variables { EachIndex rows.now (λ i. slice_index rows.now i < 2 ^ 32) }
+    requires few { frame.first_temp + max (temps_of (term_of a.now)) (temps_of (term_of b.now))
+        < 2 ^ 32 }
+    ensures block { OnOk result (Appends block.old block.new
+        (lowered_connective (connective_of o)
+        (lowered_test rows.now (term_of a.now) frame.target frame.first_temp)
+        (lowered_test rows.now (term_of b.now) frame.target frame.first_temp)
+        frame.target).block) }
+    ensures form { IfOk result (λ f. form_of f
+        ≡ (lowered_connective (connective_of o)
+        (lowered_test rows.now (term_of a.now) frame.target frame.first_temp)
+        (lowered_test rows.now (term_of b.now) frame.target frame.first_temp)
+        frame.target).form) }
+    ensures words { OnOk result (EachLeaf IsWordLeaf (term_of a.now)
+        × EachLeaf IsWordLeaf (term_of b.now)) }
+{
+    let first = lower_condition(alloc, a, rows, frame, block)?;
+    let mut more = Stmts::new(alloc);
+    let second = lower_condition(alloc, b, rows, frame, &mut more)?;
+    connected(alloc, o, first, more, second, frame.target, block)
+}
+
+/// Appends the statements that run one of two branches, which puts its value into the target.
+#[cycle(terms)]
+#[tactic(auto, using(crate::proofs::Appends::push_steps))]
+fn lower_choice(
+    alloc: Global,
+    c: &Expr,
+    a: &Expr,
+    b: &Expr,
+    rows: &Words,
+    frame: Frame,
+    block: &mut Stmts,
+) -> Result<(), NoMemory>
+    requires bound { EachLeaf (IsBoundLeaf (length rows.now)) (term_of c.now)
+        × (EachLeaf (IsBoundLeaf (length rows.now)) (term_of a.now)
+        × EachLeaf (IsBoundLeaf (length rows.now)) (term_of b.now)) }
+    requires variables { EachIndex rows.now (λ i. slice_index rows.now i < 2 ^ 32) }
+    requires few { frame.first_temp + max (temps_of (term_of c.now))
+        (max (temps_of (term_of a.now)) (temps_of (term_of b.now))) < 2 ^ 32 }
+    ensures block { OnOk result (Appends block.old block.new
+        (lowered_choice (lowered_test rows.now (term_of c.now) frame.target frame.first_temp)
+        (lowered_into rows.now (term_of a.now) frame.target frame.first_temp)
+        (lowered_into rows.now (term_of b.now) frame.target frame.first_temp)).block) }
+    ensures words { OnOk result (EachLeaf IsWordLeaf (term_of c.now)
+        × (EachLeaf IsWordLeaf (term_of a.now) × EachLeaf IsWordLeaf (term_of b.now))) }
+{
+    let holds = lower_condition(alloc, c, rows, frame, block)?;
+    let mut then = Stmts::new(alloc);
+    put_value(alloc, a, rows, frame, &mut then)?;
+    let mut otherwise = Stmts::new(alloc);
+    put_value(alloc, b, rows, frame, &mut otherwise)?;
+    block.push(Stmt::If(Box::into_inner(holds), then, otherwise))
+}
+
+/// Appends the statements of `e`, and gives the test that holds then where its value is true.
+#[cycle(terms)]
+#[tactic(auto, using(crate::proofs::Appends::push_steps))]
+pub fn lower_condition(
+    alloc: Global,
+    e: &Expr,
+    rows: &Words,
+    frame: Frame,
+    block: &mut Stmts,
+) -> Result<Box<T>, NoMemory>
+    requires bound { EachLeaf (IsBoundLeaf (length rows.now)) (term_of e.now) }
+    requires variables { EachIndex rows.now (λ i. slice_index rows.now i < 2 ^ 32) }
+    requires few { frame.first_temp + temps_of (term_of e.now) < 2 ^ 32 }
+    ensures block { OnOk result (Appends block.old block.new
+        (lowered_test rows.now (term_of e.now) frame.target frame.first_temp).block) }
+    ensures test { IfOk result (λ holds. test_of holds.value
+        ≡ (lowered_test rows.now (term_of e.now) frame.target frame.first_temp).test) }
+    ensures words { OnOk result (EachLeaf IsWordLeaf (term_of e.now)) }
+{
+    let form = lower_form(alloc, e, rows, frame, block)?;
+    condition(alloc, form, frame.target)
+}
+
+/// Appends the statements that put the value of `e` into the target.
+#[cycle(terms)]
+#[tactic(auto, using(crate::proofs::Appends::push_steps))]
 pub fn put_value(
     alloc: Global,
     e: &Expr,
     rows: &Words,
-    v: u32,
-    t: u32,
+    frame: Frame,
     block: &mut Stmts,
 ) -> Result<(), NoMemory>
-    requires bound { IsBound (length rows.now) (term_of e.now) }
+    requires bound { EachLeaf (IsBoundLeaf (length rows.now)) (term_of e.now) }
     requires variables { EachIndex rows.now (λ i. slice_index rows.now i < 2 ^ 32) }
-    requires few { t + temps_of (term_of e.now) < 2 ^ 32 }
-    ensures block { OnOk result (block_of block.new ≡ join (block_of block.old) (lowered_into rows.now (term_of e.now) v t)) }
-    ensures words { OnOk result (HasWords (term_of e.now)) }
+    requires few { frame.first_temp + temps_of (term_of e.now) < 2 ^ 32 }
+    ensures block { OnOk result (Appends block.old block.new
+        (lowered_into rows.now (term_of e.now) frame.target frame.first_temp)) }
+    ensures words { OnOk result (EachLeaf IsWordLeaf (term_of e.now)) }
 {
-    let form = lower_form(alloc, e, rows, v, t, block)?;
-    put(alloc, form, v, block)
+    let form = lower_form(alloc, e, rows, frame, block)?;
+    put(alloc, form, frame.target, block)
 }

@@ -2,16 +2,19 @@
 
 ghost use Rattle.std.specs.Prelude.{◌≡◌, if◌then◌else◌, IfOk, OnOk};
 ghost use Rattle.list_denotation.specs.Copies.{term_of};
-ghost use Rattle.loop_ir.specs.Statements.{Nil, join};
-ghost use Rattle.loop_ir.specs.StatementCopies.{operand_of, block_of};
 ghost use Rattle.list_denotation.specs.Typing.{is_division};
-ghost use Rattle.expr_lower.specs.Lowering.{InTarget, is_word, operand_rest, operand_in, target_rest, constant_of, is_simple, held_in, held_block, lowered_minus, lowered_arithmetic, lowered_comparison, lowered_division, lowered_operation};
-ghost use Rattle.expr_lower.specs.FormCopies.{form_of, division_of, bare, settled, kept_form, kept_rest};
+ghost use Rattle.loop_ir.specs.Statements.{Nil};
+ghost use Rattle.loop_ir.specs.StatementCopies.{operand_of};
+ghost use Rattle.expr_phrases.specs.Simple.{constant_of, is_simple};
+ghost use Rattle.expr_lower.specs.Lowering.{InTarget, is_word, operand_rest, operand_in, target_rest, division_operand_in, division_operand_block, lowered_minus, lowered_arithmetic, lowered_comparison, lowered_division, lowered_operation};
+ghost use Rattle.expr_phrases.specs.PhraseCopies.{division_of, Appends};
+ghost use Rattle.expr_lower.specs.FormCopies.{form_of, without_statements, as_operand, kept_form, kept_rest};
 
-use crate::comparison::compared;
-use crate::division::{Division, Side, by_divisor};
-use crate::forms::{Form, minus, operand, put, set_truth};
-use crate::simple::{constant, is_division, is_simple};
+use crate::forms::{Form, operand, put};
+use expr_phrases::{
+    Division, Side, boxed_word, by_divisor, comparison_test, constant, is_division, is_simple,
+    minus, set_truth,
+};
 use list_denotation::{BinOp, Expr};
 use loop_ir::{Stmt, Stmts, W, WOp};
 use std::alloc::Global;
@@ -29,14 +32,17 @@ pub struct Part<'a> {
 /// Appends the statements of 0 minus the value.
 #[tactic(auto, using(crate::proofs::Appends::push_steps))]
 pub fn negated(alloc: Global, f: Form, v: u32, block: &mut Stmts) -> Result<Form, NoMemory>
-    ensures block { OnOk result (block_of block.new ≡ join (block_of block.old) (lowered_minus (bare (form_of f)) v).block) }
-    ensures form { IfOk result (λ made. form_of made ≡ (lowered_minus (bare (form_of f)) v).form) }
+    ensures block { OnOk result (Appends block.old block.new
+        (lowered_minus (without_statements (form_of f)) v).block) }
+    ensures form { IfOk result (λ made. form_of made
+        ≡ (lowered_minus (without_statements (form_of f)) v).form) }
 {
     match f {
         Form::Word(w) => Ok(Form::Word(minus(alloc, w)?)),
         f => {
             let _word = operand(alloc, f, v, block)?;
-            block.push(Stmt::Set(v, minus(alloc, W::Var(v))?))?;
+            let negated = minus(alloc, boxed_word(alloc, W::Var(v))?)?;
+            block.push(Stmt::Set(v, Box::into_inner(negated)))?;
             Ok(Form::InTarget)
         }
     }
@@ -53,13 +59,14 @@ pub fn keep(
     v: u32,
     block: &mut Stmts,
 ) -> Result<Form, NoMemory>
-    ensures block { OnOk result (block_of block.new ≡ join (block_of block.old) (kept_rest op (term_of e.now) (form_of f) v)) }
+    ensures block { OnOk result (Appends block.old block.new
+        (kept_rest op (term_of e.now) (form_of f) v)) }
     ensures form { IfOk result (λ made. form_of made ≡ kept_form op (term_of e.now) (form_of f)) }
 {
     if is_division(op) {
         keep_divided(alloc, e, f, v, block)
     } else {
-        settle(alloc, f, v, block)
+        as_operand(alloc, f, v, block)
     }
 }
 
@@ -72,8 +79,10 @@ fn keep_divided(
     v: u32,
     block: &mut Stmts,
 ) -> Result<Form, NoMemory>
-    ensures block { OnOk result (block_of block.new ≡ join (block_of block.old) (if is_simple (term_of e.now) then Nil else target_rest (form_of f) v)) }
-    ensures form { IfOk result (λ made. form_of made ≡ (if is_simple (term_of e.now) then form_of f else InTarget)) }
+    ensures block { OnOk result (Appends block.old block.new
+        (if is_simple (term_of e.now) then Nil else target_rest (form_of f) v)) }
+    ensures form { IfOk result (λ made. form_of made
+        ≡ (if is_simple (term_of e.now) then form_of f else InTarget)) }
 {
     if is_simple(e) {
         return Ok(f);
@@ -84,9 +93,9 @@ fn keep_divided(
 
 /// A word stays as it is. Else the statements that put the value into v are appended.
 #[tactic(auto, using(crate::proofs::Appends::push_steps))]
-fn settle(alloc: Global, f: Form, v: u32, block: &mut Stmts) -> Result<Form, NoMemory>
-    ensures block { OnOk result (block_of block.new ≡ join (block_of block.old) (operand_rest (form_of f) v)) }
-    ensures form { IfOk result (λ made. form_of made ≡ settled (form_of f)) }
+fn as_operand(alloc: Global, f: Form, v: u32, block: &mut Stmts) -> Result<Form, NoMemory>
+    ensures block { OnOk result (Appends block.old block.new (operand_rest (form_of f) v)) }
+    ensures form { IfOk result (λ made. form_of made ≡ as_operand (form_of f)) }
 {
     match f {
         Form::Word(w) => Ok(Form::Word(w)),
@@ -107,8 +116,14 @@ pub fn operation(
     right: Part,
     block: &mut Stmts,
 ) -> Result<Form, NoMemory>
-    ensures block { OnOk result (block_of block.new ≡ join (block_of block.old) (lowered_operation op (term_of left.entry.e.now) (term_of right.entry.e.now) (bare (form_of left.entry.form)) (bare (form_of right.entry.form)) left.entry.at right.entry.at).block) }
-    ensures form { IfOk result (λ made. form_of made ≡ (lowered_operation op (term_of left.entry.e.now) (term_of right.entry.e.now) (bare (form_of left.entry.form)) (bare (form_of right.entry.form)) left.entry.at right.entry.at).form) }
+    ensures block { OnOk result (Appends block.old block.new
+        (lowered_operation op (term_of left.entry.e.now) (term_of right.entry.e.now)
+        (without_statements (form_of left.entry.form))
+        (without_statements (form_of right.entry.form)) left.entry.at right.entry.at).block) }
+    ensures form { IfOk result (λ made. form_of made
+        ≡ (lowered_operation op (term_of left.entry.e.now) (term_of right.entry.e.now)
+        (without_statements (form_of left.entry.form))
+        (without_statements (form_of right.entry.form)) left.entry.at right.entry.at).form) }
 {
     match op {
         BinOp::Add => arithmetic(alloc, WOp::Add, left, right, block),
@@ -132,18 +147,21 @@ fn arithmetic(
     right: Part,
     block: &mut Stmts,
 ) -> Result<Form, NoMemory>
-    ensures block { OnOk result (block_of block.new ≡ join (block_of block.old) (lowered_arithmetic op (bare (form_of left.entry.form)) (bare (form_of right.entry.form)) left.entry.at right.entry.at).block) }
-    ensures form { IfOk result (λ made. form_of made ≡ (lowered_arithmetic op (bare (form_of left.entry.form)) (bare (form_of right.entry.form)) left.entry.at right.entry.at).form) }
+    ensures block { OnOk result (Appends block.old block.new
+        (lowered_arithmetic op (without_statements (form_of left.entry.form))
+        (without_statements (form_of right.entry.form)) left.entry.at right.entry.at).block) }
+    ensures form { IfOk result (λ made. form_of made
+        ≡ (lowered_arithmetic op (without_statements (form_of left.entry.form))
+        (without_statements (form_of right.entry.form)) left.entry.at right.entry.at).form) }
 {
     let in_place = is_word(&left.form) && is_word(&right.form);
     let x = operand(alloc, left.form, left.at, block)?;
     let y = operand(alloc, right.form, right.at, block)?;
-    let x = Box::new(alloc, x)?;
-    let w = W::Bin(op, x, Box::new(alloc, y)?);
+    let w = boxed_word(alloc, W::Bin(op, x, y))?;
     if in_place {
         return Ok(Form::Word(w));
     }
-    block.push(Stmt::Set(left.at, w))?;
+    block.push(Stmt::Set(left.at, Box::into_inner(w)))?;
     Ok(Form::InTarget)
 }
 
@@ -162,12 +180,16 @@ fn comparison(
     right: Part,
     block: &mut Stmts,
 ) -> Result<Form, NoMemory>
-    ensures block { OnOk result (block_of block.new ≡ join (block_of block.old) (lowered_comparison op (bare (form_of left.entry.form)) (bare (form_of right.entry.form)) left.entry.at right.entry.at).block) }
-    ensures form { IfOk result (λ made. form_of made ≡ (lowered_comparison op (bare (form_of left.entry.form)) (bare (form_of right.entry.form)) left.entry.at right.entry.at).form) }
+    ensures block { OnOk result (Appends block.old block.new
+        (lowered_comparison op (without_statements (form_of left.entry.form))
+        (without_statements (form_of right.entry.form)) left.entry.at right.entry.at).block) }
+    ensures form { IfOk result (λ made. form_of made
+        ≡ (lowered_comparison op (without_statements (form_of left.entry.form))
+        (without_statements (form_of right.entry.form)) left.entry.at right.entry.at).form) }
 {
     let x = operand(alloc, left.form, left.at, block)?;
     let y = operand(alloc, right.form, right.at, block)?;
-    Ok(Form::Test(compared(alloc, op, x, y)?))
+    Ok(Form::Test(comparison_test(alloc, op, x, y)?))
 }
 
 /// Appends the statements of a division, whose value is in the target.
@@ -179,39 +201,45 @@ fn division(
     right: Part,
     block: &mut Stmts,
 ) -> Result<Form, NoMemory>
-    ensures block { OnOk result (block_of block.new ≡ join (block_of block.old) (lowered_division (division_of d) (term_of left.entry.e.now) (term_of right.entry.e.now) (bare (form_of left.entry.form)) (bare (form_of right.entry.form)) left.entry.at right.entry.at).block) }
+    ensures block { OnOk result (Appends block.old block.new
+        (lowered_division (division_of d) (term_of left.entry.e.now) (term_of right.entry.e.now)
+        (without_statements (form_of left.entry.form))
+        (without_statements (form_of right.entry.form)) left.entry.at right.entry.at).block) }
     ensures form { IfOk result (λ made. form_of made ≡ InTarget) }
 {
     let v = left.at;
-    let x = held(alloc, left, block)?;
-    let y = held(alloc, right, block)?;
+    let x = division_operand(alloc, left, block)?;
+    let y = division_operand(alloc, right, block)?;
     by_divisor(alloc, d, &x, &y, v, block)?;
     Ok(Form::InTarget)
 }
 
 /// The operand of a division. What isn't a constant or a name is put into its target first.
 #[tactic(auto, using(crate::proofs::Appends::push_steps))]
-fn held(alloc: Global, part: Part, block: &mut Stmts) -> Result<Side, NoMemory>
-    ensures block { OnOk result (block_of block.new ≡ join (block_of block.old) (held_block (term_of part.entry.e.now) (bare (form_of part.entry.form)) part.entry.at)) }
+fn division_operand(alloc: Global, part: Part, block: &mut Stmts) -> Result<Side, NoMemory>
+    ensures block { OnOk result (Appends block.old block.new
+        (division_operand_block (term_of part.entry.e.now)
+        (without_statements (form_of part.entry.form)) part.entry.at)) }
     ensures constant { IfOk result (λ side. side.constant ≡ constant_of (term_of part.entry.e.now)) }
-    ensures word { IfOk result (λ side. operand_of side.word ≡ held_in (term_of part.entry.e.now) (form_of part.entry.form) part.entry.at) }
+    ensures word { IfOk result (λ side. operand_of side.word.value
+        ≡ division_operand_in (term_of part.entry.e.now) (form_of part.entry.form) part.entry.at) }
 {
     let constant = constant(part.e);
     if is_simple(part.e) {
-        let word = named(part.form, part.at);
+        let word = named(alloc, part.form, part.at)?;
         return Ok(Side { word, constant });
     }
     put(alloc, part.form, part.at, block)?;
-    let word = W::Var(part.at);
+    let word = boxed_word(alloc, W::Var(part.at))?;
     Ok(Side { word, constant })
 }
 
 /// The word of a value: its own, or the target.
-fn named(f: Form, v: u32) -> W
-    ensures { operand_of result ≡ operand_in (form_of f) v }
+fn named(alloc: Global, f: Form, v: u32) -> Result<Box<W>, NoMemory>
+    ensures { IfOk result (λ w. operand_of w.value ≡ operand_in (form_of f) v) }
 {
     match f {
-        Form::Word(w) => w,
-        Form::Test(_) | Form::InTarget => W::Var(v),
+        Form::Word(w) => Ok(w),
+        Form::Test(_) | Form::InTarget => boxed_word(alloc, W::Var(v)),
     }
 }

@@ -1,24 +1,27 @@
 //! The statements of an expression over the words of a scope.
 
-ghost use Rattle.std.specs.Prelude.{◌≡◌, ◌≤◌, length, IfOk, OnOk};
+ghost use Rattle.std.specs.Prelude.{◌≡◌, ◌≤◌, length, IsTrue, IfOk, OnOk};
 ghost use Rattle.list_denotation.specs.Copies.{term_of};
+ghost use Rattle.list_denotation.specs.Literals.{has_words};
+ghost use Rattle.list_denotation.specs.Scopes.{is_bound};
+ghost use Rattle.loop_ir.specs.Constants.{test_has_words, block_has_words};
 ghost use Rattle.loop_ir.specs.Counts.{block_count, block_loops};
-ghost use Rattle.loop_ir.specs.Statements.{join};
-ghost use Rattle.loop_ir.specs.StatementCopies.{block_of};
-ghost use Rattle.expr_lower.specs.Contract.{scope_of, IsTarget, GivesValue, NamesOnly};
+ghost use Rattle.loop_ir.specs.StatementCopies.{test_of, block_of};
+ghost use Rattle.expr_lower.specs.Contract.{scope_of, value_block, condition_block, condition_test, IsTarget, GivesValue, GivesTruth, NamesOnly, TestNamesOnly};
 ghost use Rattle.expr_lower.specs.Costs.{cost, temps_of};
-ghost use Rattle.expr_lower.specs.Lowering.{lowered_into};
-ghost use Rattle.expr_lower.specs.Scopes.{HasWords, IsBound};
+ghost use Rattle.expr_phrases.specs.PhraseCopies.{Appends};
 
-use crate::lowering::put_value;
+use crate::laws::laws_below;
+use crate::lowering::{Frame, lower_condition, put_value};
 use list_denotation::Expr;
-use loop_ir::Stmts;
+use loop_ir::{Stmts, T};
 use state_alloc::Slots;
 use std::alloc::Global;
 use strm_num::NoMemory;
 
 /// Appends the statements that put the value of `e` into the variable `target`, as `lower` gives
-/// them. The one error is `NoMemory`, where memory is refused.
+/// them. Where the target is a temporary or a variable of a word that `e` reads, nothing is said of
+/// its value. The one error is `NoMemory`, where memory is refused.
 #[tactic(auto, using(crate::proofs::Contract::rows_fit, crate::proofs::Contract::temps_fit))]
 pub fn lower_into(
     alloc: Global,
@@ -27,12 +30,83 @@ pub fn lower_into(
     target: u32,
     block: &mut Stmts,
 ) -> Result<(), NoMemory>
-    requires bound { IsBound (length slots.now.rows) (term_of e.now) }
+    requires bound { IsTrue (is_bound (length slots.now.rows) (term_of e.now)) }
     requires temporaries { temps_of (term_of e.now) ≤ slots.now.temps }
-    ensures block { OnOk result (block_of block.new ≡ join (block_of block.old) (lowered_into slots.now.rows (term_of e.now) target slots.now.first_temp)) }
-    ensures words { OnOk result (HasWords (term_of e.now)) }
+
+    ensures block { OnOk result (Appends block.old block.new
+        (value_block (scope_of slots.now) (term_of e.now) target)) }
+    ensures words { OnOk result (IsTrue (has_words (term_of e.now))) }
+
+    // Of what is appended:
+    ensures gives { OnOk result (IsTarget (scope_of slots.now) (term_of e.now) target
+        → GivesValue (scope_of slots.now) (term_of e.now) target
+        (value_block (scope_of slots.now) (term_of e.now) target)) }
+    ensures names { OnOk result (NamesOnly (scope_of slots.now) (term_of e.now) target
+        (value_block (scope_of slots.now) (term_of e.now) target)) }
+    ensures few { OnOk result
+        (block_count (value_block (scope_of slots.now) (term_of e.now) target)
+        ≤ cost (term_of e.now)) }
+    ensures no_loops { OnOk result
+        (block_loops (value_block (scope_of slots.now) (term_of e.now) target) ≡ 0) }
+    ensures constants { OnOk result (IsTrue (block_has_words
+        (value_block (scope_of slots.now) (term_of e.now) target))) }
 {
-    put_value(alloc, e, &slots.rows, target, slots.first_temp, block)
+    laws_below();
+    let frame = Frame {
+        target,
+        first_temp: slots.first_temp,
+    };
+    put_value(alloc, e, &slots.rows, frame, block)
+}
+
+/// Appends the statements of a condition, and gives the test that holds once they have run where the
+/// value of `e` is true: 0 is false, and every other word is true. Where `e` traps they return 1. They
+/// have no loop, and take no turn.
+///
+/// What is said of the words, the temporaries and the target of `lower` holds here too; what stands
+/// in the variable `scratch` then is not said. The one error is `NoMemory`, where memory is refused.
+#[tactic(auto, using(crate::proofs::Contract::rows_fit, crate::proofs::Contract::temps_fit))]
+pub fn lower_test(
+    alloc: Global,
+    e: &Expr,
+    slots: &Slots,
+    scratch: u32,
+    block: &mut Stmts,
+) -> Result<Box<T>, NoMemory>
+    requires bound { IsTrue (is_bound (length slots.now.rows) (term_of e.now)) }
+    requires temporaries { temps_of (term_of e.now) ≤ slots.now.temps }
+    requires target { IsTarget (scope_of slots.now) (term_of e.now) scratch }
+
+    ensures block { OnOk result (Appends block.old block.new
+        (condition_block (scope_of slots.now) (term_of e.now) scratch)) }
+    ensures test { IfOk result (λ t. test_of t.value
+        ≡ condition_test (scope_of slots.now) (term_of e.now) scratch) }
+    ensures words { OnOk result (IsTrue (has_words (term_of e.now))) }
+
+    // Of what is appended, and of the test:
+    ensures gives { OnOk result (GivesTruth (scope_of slots.now) (term_of e.now) scratch
+        (condition_block (scope_of slots.now) (term_of e.now) scratch)
+        (condition_test (scope_of slots.now) (term_of e.now) scratch)) }
+    ensures names { OnOk result (NamesOnly (scope_of slots.now) (term_of e.now) scratch
+        (condition_block (scope_of slots.now) (term_of e.now) scratch)) }
+    ensures test_names { OnOk result (TestNamesOnly (scope_of slots.now) (term_of e.now) scratch
+        (condition_test (scope_of slots.now) (term_of e.now) scratch)) }
+    ensures few { OnOk result
+        (block_count (condition_block (scope_of slots.now) (term_of e.now) scratch)
+        ≤ cost (term_of e.now)) }
+    ensures no_loops { OnOk result
+        (block_loops (condition_block (scope_of slots.now) (term_of e.now) scratch) ≡ 0) }
+    ensures constants { OnOk result (IsTrue (block_has_words
+        (condition_block (scope_of slots.now) (term_of e.now) scratch))) }
+    ensures test_constants { OnOk result (IsTrue (test_has_words
+        (condition_test (scope_of slots.now) (term_of e.now) scratch))) }
+{
+    laws_below();
+    let frame = Frame {
+        target: scratch,
+        first_temp: slots.first_temp,
+    };
+    lower_condition(alloc, e, &slots.rows, frame, block)
 }
 
 /// The statements that put the value of `e` into the variable `target`, or return 1 exactly where it
@@ -42,16 +116,20 @@ pub fn lower_into(
 /// no variable of a word that `e` reads. Besides the target only temporaries are changed; at most one
 /// is used for each level of the depth of `e`. What the operations mean on unsigned words is C's
 /// arithmetic (ISO/IEC 9899:2011, 6.2.5 and 6.5). The one error is `NoMemory`, where memory is refused.
-#[tactic(auto, using(crate::proofs::Contract::facts))]
 pub fn lower(alloc: Global, e: &Expr, slots: &Slots, target: u32) -> Result<Stmts, NoMemory>
-    requires bound { IsBound (length slots.now.rows) (term_of e.now) }
+    requires bound { IsTrue (is_bound (length slots.now.rows) (term_of e.now)) }
     requires temporaries { temps_of (term_of e.now) ≤ slots.now.temps }
-    requires target { IsTarget (scope_of slots.now.rows slots.now.first_temp slots.now.temps) (term_of e.now) target }
-    ensures block { IfOk result (λ ss. block_of ss ≡ lowered_into slots.now.rows (term_of e.now) target slots.now.first_temp) }
-    ensures gives { IfOk result (λ ss. GivesValue (scope_of slots.now.rows slots.now.first_temp slots.now.temps) (term_of e.now) target (block_of ss)) }
-    ensures names { IfOk result (λ ss. NamesOnly (scope_of slots.now.rows slots.now.first_temp slots.now.temps) (term_of e.now) target (block_of ss)) }
+    requires target { IsTarget (scope_of slots.now) (term_of e.now) target }
+
+    ensures block { IfOk result (λ ss. block_of ss
+        ≡ value_block (scope_of slots.now) (term_of e.now) target) }
+    ensures gives { IfOk result (λ ss.
+        GivesValue (scope_of slots.now) (term_of e.now) target (block_of ss)) }
+    ensures names { IfOk result (λ ss.
+        NamesOnly (scope_of slots.now) (term_of e.now) target (block_of ss)) }
     ensures few { IfOk result (λ ss. block_count (block_of ss) ≤ cost (term_of e.now)) }
     ensures no_loops { IfOk result (λ ss. block_loops (block_of ss) ≡ 0) }
+    ensures constants { IfOk result (λ ss. IsTrue (block_has_words (block_of ss))) }
 {
     let mut block = Stmts::new(alloc);
     lower_into(alloc, e, slots, target, &mut block)?;

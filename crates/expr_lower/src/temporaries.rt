@@ -1,19 +1,18 @@
 //! How many temporaries the statements of an expression use.
 
-ghost use Rattle.std.specs.Prelude.{◌≡◌, ◌≤◌};
+ghost use Rattle.std.specs.Prelude.{◌≡◌, ◌<◌, ◌^◌};
 ghost use Rattle.list_denotation.specs.Copies.{term_of};
-ghost use Rattle.list_denotation.specs.Counts.{term_depth};
 ghost use Rattle.list_denotation.specs.Typing.{is_division};
 ghost use Rattle.expr_lower.specs.Costs.{is_arithmetic, is_plain, is_direct, temps_of};
 
-use crate::simple::{is_division, is_simple};
+use expr_phrases::{is_division, is_leaf, is_simple};
 use list_denotation::{BinOp, Expr};
 
 /// The temporaries that the statements of an expression use, at most one for each level of its depth:
 /// one for each right operand that is kept while others are looked at.
-#[tactic(auto, using(crate::proofs::Costs::temps_depth))]
+#[tactic(auto, using(crate::proofs::Costs::kept_few))]
 pub fn temps_of(e: &Expr) -> u32
-    requires { term_depth (term_of e.now) ≤ 200 }
+    requires { temps_of (term_of e.now) < 2 ^ 32 }
     ensures { result ≡ temps_of (term_of e.now) }
 {
     match e {
@@ -56,9 +55,8 @@ fn is_plain(e: &Expr) -> bool
     ensures { result ≡ is_plain (term_of e.now) }
 {
     match e {
-        Expr::Lit(_) | Expr::Truth(_) | Expr::Var(_) | Expr::Param(_) | Expr::Len(_) => true,
         Expr::Neg(a) => is_plain(a),
         Expr::Bin(op, a, b) => is_arithmetic(*op) && is_plain(a) && is_plain(b),
-        _ => false,
+        _ => is_leaf(e),
     }
 }

@@ -1,13 +1,14 @@
 -- The steps of the emission, which appends statements one by one.
-use Rattle.std.proofs.Common.{◌≡◌, ℕ, zero, suc, ◌+◌, ◌≤◌, List, [], ◌∷◌, ◌++◌, length, drop, max, Some, refl, sym, ap, subst, ◌∙◌, arith}
-use Rattle.std.specs.Prelude.{slice_get}
+use Rattle.std.proofs.Common.{◌≡◌, ℕ, zero, suc, ◌+◌, ◌<◌, ◌≤◌, List, [], ◌∷◌, ◌++◌, length, drop, max, Some, refl, sym, ap, subst, ◌∙◌, arith}
+use Rattle.std.specs.Prelude.{IsTrue, slice_get}
 use Rattle.std.specs.List.{range_with_len}
 use Rattle.std.proofs.lemmas.List.{drop_all}
 use Rattle.strm_num.proofs.Lists.{drop_at}
+use Rattle.strm_num.proofs.Truths.{both_true}
 use Rattle.list_denotation.specs.declared.expr.Expr.{Expr}
 use Rattle.list_denotation.specs.Copies.{term_of, terms_of}
 use Rattle.list_denotation.specs.Terms.{Term, Pipe}
-use Rattle.list_denotation.specs.Counts.{term_depth, row_depth}
+use Rattle.list_denotation.specs.Scopes.{is_bound, all_bound}
 use Rattle.loop_ir.specs.declared.syntax.Stmt.{Stmt}
 use Rattle.loop_ir.specs.declared.syntax.Stmt.TheVariants as stmt
 use Rattle.loop_ir.specs.declared.syntax.W.TheVariants as w
@@ -16,11 +17,9 @@ use Rattle.loop_ir.specs.StatementCopies.{block_of}
 use Rattle.loop_ir.proofs.Copies.{join_join, join-nil, emit_copy, push_front, set_push, read_push, loop_push, end_push}
 use Rattle.expr_lower.specs.Costs.{temps_of}
 use Rattle.expr_lower.specs.Lowering.{lowered_into}
-use Rattle.expr_lower.specs.Scopes.{HasWords, IsBound}
-use Rattle.loop_emit.specs.Chains.{HaveWords, AreBound, width_of}
+use Rattle.loop_emit.specs.Chains.{width_of}
 use Rattle.loop_emit.specs.Emission.{row_temps, row_vars, assignments, print_block}
-use Rattle.loop_emit.proofs.RowVariables.{vars_width}
-use Rattle.loop_emit.proofs.Compiled.{typed_chain, typed_few, few_temps, printed_finish}
+use Rattle.loop_emit.proofs.RowVariables.{vars_width, two_below}
 
 pub terms_of_length : (es : List Expr) → length (terms_of es) ≡ length es
 terms_of_length [] = refl
@@ -38,24 +37,21 @@ temps_step es i e most all h g = let at = ap row_temps (rest_at es i e h) in ome
 pub temps_end : (es : List Expr) (i : ℕ) → length es ≤ i → row_temps (terms_of (drop i es)) ≡ 0
 temps_end es i le = ap (λ l. row_temps (terms_of l)) (drop_all i es le)
 
-pub depth_at : (es : List Expr) (i : ℕ) (e : Expr) → slice_get es i ≡ Some e → row_depth (terms_of es) ≤ 200 → term_depth (term_of e) ≤ 200
-depth_at [] i e h le = absurd cc
-depth_at (x ∷ es) zero e h le = let same : x ≡ e = cc in omega (arith, le, ap (λ y. term_depth (term_of y)) same)
-depth_at (x ∷ es) (suc i) e h le = depth_at es i e h (omega (arith, le))
+pub temps_below : (es : List Expr) (i : ℕ) (e : Expr) (n : ℕ) → slice_get es i ≡ Some e → row_temps (terms_of es) < n → temps_of (term_of e) < n
+temps_below [] i e n h lt = absurd cc
+temps_below (x ∷ es) zero e n h lt = let same : x ≡ e = cc in omega (arith, lt, ap (λ y. temps_of (term_of y)) same)
+temps_below (x ∷ es) (suc i) e n h lt = temps_below es i e n h (omega (arith, lt))
 
-pub ruleset temps_steps = (temps_step, temps_end, depth_at)
+pub ruleset temps_steps = (temps_step, temps_end, temps_below)
 
 -- ---- the words of a row
 
-pub bound_at : (n : ℕ) (es : List Expr) (i : ℕ) (e : Expr) → slice_get es i ≡ Some e → AreBound n (terms_of es) → IsBound n (term_of e)
+pub bound_at : (n : ℕ) (es : List Expr) (i : ℕ) (e : Expr) → slice_get es i ≡ Some e → IsTrue (all_bound n (terms_of es)) → IsTrue (is_bound n (term_of e))
 bound_at n [] i e h all = absurd cc
-bound_at n (x ∷ es) zero e h all = let same : x ≡ e = cc in subst (λ y. IsBound n (term_of y)) same all.0
-bound_at n (x ∷ es) (suc i) e h all = bound_at n es i e h all.1
-
-pub temps_at : (es : List Expr) (i : ℕ) (e : Expr) (most : ℕ) → slice_get es i ≡ Some e → row_temps (terms_of es) ≤ most → temps_of (term_of e) ≤ most
-temps_at [] i e most h le = absurd cc
-temps_at (x ∷ es) zero e most h le = let same : x ≡ e = cc in omega (arith, le, ap (λ y. temps_of (term_of y)) same)
-temps_at (x ∷ es) (suc i) e most h le = temps_at es i e most h (omega (arith, le))
+bound_at n (x ∷ es) zero e h all =
+    let same : x ≡ e = cc in
+    subst (λ y. IsTrue (is_bound n (term_of y))) same (both_true (is_bound n (term_of x)) (all_bound n (terms_of es)) all).0
+bound_at n (x ∷ es) (suc i) e h all = bound_at n es i e h (both_true (is_bound n (term_of x)) (all_bound n (terms_of es)) all).1
 
 pub assign_step : (a b : Block) (es : List Expr) (rows : List ℕ) (next i : ℕ) (e : Expr) → slice_get es i ≡ Some e → b ≡ join a (lowered_into rows (term_of e) (next + i) 0) → join b (assignments (terms_of (drop (i + 1) es)) rows (next + (i + 1))) ≡ join a (assignments (terms_of (drop i es)) rows (next + i))
 assign_step a b es rows next i e h is =
@@ -68,12 +64,6 @@ assign_step a b es rows next i e h is =
 pub assign_end : (a : Block) (es : List Expr) (rows : List ℕ) (next i : ℕ) → length es ≤ i → join a (assignments (terms_of (drop i es)) rows (next + i)) ≡ a
 assign_end a es rows next i le = ap (λ l. join a (assignments (terms_of l) rows (next + i))) (drop_all i es le) ∙ join-nil a
 
-pub words_step : (es : List Expr) (i : ℕ) (e : Expr) → slice_get es i ≡ Some e → HasWords (term_of e) → HaveWords (terms_of (drop (i + 1) es)) → HaveWords (terms_of (drop i es))
-words_step es i e h word rest = subst HaveWords (sym (rest_at es i e h)) (word, rest)
-
-pub words_end : (es : List Expr) (i : ℕ) → length es ≤ i → HaveWords (terms_of (drop i es))
-words_end es i le = subst (λ l. HaveWords (terms_of l)) (sym (drop_all i es le)) tt
-
 -- one variable more
 pub range_step : (next i : ℕ) → range_with_len next i ++ range_with_len (next + i) 1 ≡ range_with_len next (i + 1)
 range_step next zero = let e : next + 0 ≡ next = omega arith in ap (λ n. n ∷ []) e
@@ -84,11 +74,11 @@ range_step next (suc i) =
     ∙ ap (λ l. next ∷ l) (range_step (next + 1) i)
     ∙ ap (range_with_len next) longer
 
-pub ruleset assign_steps = (assign_step, assign_end, words_step, words_end, range_step, terms_of_length)
+pub ruleset assign_steps = (assign_step, assign_end, range_step, terms_of_length)
 
 -- the words of the row below are bound
-pub row_bound : (temps : ℕ) (of : Pipe) (rows : List ℕ) (body : List Term) → rows ≡ row_vars temps of → AreBound (width_of of) body → AreBound (length rows) body
-row_bound temps of rows body is bound = subst (λ n. AreBound n body) (sym (ap length is ∙ vars_width temps of)) bound
+pub row_bound : (temps : ℕ) (of : Pipe) (rows : List ℕ) (body : List Term) → rows ≡ row_vars temps of → IsTrue (all_bound (width_of of) body) → IsTrue (all_bound (length rows) body)
+row_bound temps of rows body is bound = subst (λ n. IsTrue (all_bound n body)) (sym (ap length is ∙ vars_width temps of)) bound
 
 pub ruleset row_steps = (row_bound, read_push, join_join)
 
@@ -104,4 +94,4 @@ print_end ss rows i le = end_push ss ∙ ap (λ l. join (block_of ss) (print_blo
 
 pub ruleset print_steps = (print_step, print_end)
 
-pub ruleset turn_steps = (set_push, loop_push, join_join, typed_chain, typed_few, few_temps, printed_finish)
+pub ruleset turn_steps = (set_push, loop_push, join_join, two_below)

@@ -1,6 +1,7 @@
 pub mod ChainRows
 pub mod Variables
 pub mod RowVariables
+pub mod Assignments
 pub mod Turn
 pub mod Emitted
 pub mod Typed

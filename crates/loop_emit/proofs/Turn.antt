@@ -1,5 +1,5 @@
 -- What one turn of the emitted loop does: it prints the row that is made of the item at the index, or returns 1.
-use Rattle.std.proofs.Common.{◌≡◌, inr, ℕ, suc, ◌+◌, ◌<◌, ◌≤◌, List, [], ◌∷◌, append-nil, length, Some, refl, sym, ap, ◌∙◌, subst, arith}
+use Rattle.std.proofs.Common.{◌≡◌, inr, ℕ, suc, ◌+◌, ◌<◌, ◌≤◌, List, [], ◌∷◌, append-nil, length, Some, refl, ap, ◌∙◌, arith}
 use Rattle.std.specs.Prelude.{slice_index, slice_get, slice_set, IsTrue}
 use Rattle.std.specs.List.{range_with_len}
 use Rattle.std.proofs.lemmas.List.{get_or-set_same, get_or-set_other, length-set}
@@ -12,17 +12,17 @@ use Rattle.list_denotation.specs.Terms.{Term, Pipe, Array, Map, Finish, Print}
 use Rattle.list_denotation.specs.Values.{Got, Is, Fails, with_value, value, row_value}
 use Rattle.list_denotation.specs.Observation.{Failed, row_events}
 use Rattle.loop_ir.specs.Statements.{Block, Nil, join}
-use Rattle.loop_ir.specs.Meaning.{Runs, Over, after, then_do, on_value, item_of, run}
-use Rattle.loop_ir.proofs.Joins.{after_nothing, goes_on}
+use Rattle.loop_ir.specs.Meaning.{Outcome, Runs, Over, after, then_do, on_value, item_of, run}
+use Rattle.loop_ir.proofs.Joins.{after_nothing, goes_on, is_over}
+use Rattle.expr_lower.specs.Contract.{ComesTo, IsIn}
 use Rattle.expr_lower.specs.Lowering.{lowered_into}
-use Rattle.expr_lower.proofs.Effects.{Comes, IsIn, passes_on, ends_there}
-use Rattle.expr_lower.proofs.Lowers.{value_comes}
 use Rattle.loop_emit.specs.Built.{is_built_finish}
-use Rattle.loop_emit.specs.Chains.{HaveWords, AreBound, IsChain, HasRowWords}
-use Rattle.loop_emit.specs.Emission.{row_temps, stream_temps, next_var, row_vars, assignments, row_block, step_block, source_of, print_block, finish_block, turn_block}
+use Rattle.loop_emit.specs.Chains.{IsChain}
+use Rattle.loop_emit.specs.Emission.{next_var, row_vars, assignments, row_block, step_block, source_of, print_block, finish_block, turn_block}
+use Rattle.loop_emit.proofs.Assignments.{AssignsRow, AssignsChain}
 use Rattle.loop_emit.proofs.ChainRows.{row_from}
-use Rattle.loop_emit.proofs.RowVariables.{vars_width, two_below, vars_between}
-use Rattle.loop_emit.proofs.Variables.{words_at, AllBetween, AllWords, SameBetween, words_same, more_between, row_stands, row_apart}
+use Rattle.loop_emit.proofs.RowVariables.{two_below, vars_between}
+use Rattle.loop_emit.proofs.Variables.{words_at, AllBetween, AllWords, SameBetween, words_same, more_between, row_in_place}
 
 -- ---- the statements of a row
 
@@ -40,11 +40,16 @@ module _ (inputs : List Input) where
   RowComes ss env low high vars (Is words) = RowArrives ss env low high vars words
   RowComes ss env low high vars (Fails f) = (left : ℕ) → run inputs ss env left ≡ Over [] (Failed f)
 
+  -- statements that go on without an event, and what comes of those behind them
+  passes_on : (a b : Block) (env env' : List ℕ) (left : ℕ) (o : Outcome) → run inputs a env left ≡ Runs [] env' left → run inputs b env' left ≡ o → run inputs (join a b) env left ≡ o
+  passes_on a b env env' left o first second =
+      goes_on inputs a b [] env env' left first ∙ after_nothing (run inputs b env' left) ∙ second
+
   -- a first word, and the words behind it
   word_first : (a b : Block) (env env' : List ℕ) (temps next n x : ℕ) (rest : Got (List ℕ)) → temps ≤ next → IsWord x → ((left : ℕ) → run inputs a env left ≡ Runs [] env' left) → length env' ≡ length env → SameBetween temps next env env' → slice_index env' next ≡ x → RowComes b env' temps (next + 1) (range_with_len (next + 1) n) rest → RowComes (join a b) env temps next (range_with_len next (suc n)) (with_value rest (λ row. Is (x ∷ row)))
   word_first a b env env' temps next n x (Is row) le word runs same between is second = record {
     env' = second.env';
-    runs = λ left. passes_on inputs a b env env' left (Runs [] second.env' left) (runs left) (second.runs left);
+    runs = λ left. passes_on a b env env' left (Runs [] second.env' left) (runs left) (second.runs left);
     same = second.same ∙ same;
     between = λ v low high. second.between v low (omega (arith, high)) ∙ between v low high;
     holds =
@@ -53,30 +58,22 @@ module _ (inputs : List Input) where
     are_words = (word, second.are_words);
   }
   word_first a b env env' temps next n x (Fails f) le word runs same between is second =
-      λ left. passes_on inputs a b env env' left (Over [] (Failed f)) (runs left) (second left)
+      λ left. passes_on a b env env' left (Over [] (Failed f)) (runs left) (second left)
 
-  first_word : (a b : Block) (env : List ℕ) (temps next n : ℕ) (g : Got ℕ) (rest : Got (List ℕ)) → temps ≤ next → Comes inputs a env next 0 temps (IsIn inputs next) g → ((env' : List ℕ) → length env' ≡ length env → SameBetween temps next env env' → RowComes b env' temps (next + 1) (range_with_len (next + 1) n) rest) → RowComes (join a b) env temps next (range_with_len next (suc n)) (with_value g (λ x. with_value rest (λ row. Is (x ∷ row))))
+  first_word : (a b : Block) (env : List ℕ) (temps next n : ℕ) (g : Got ℕ) (rest : Got (List ℕ)) → temps ≤ next → ComesTo inputs a env next 0 temps (IsIn next) g → ((env' : List ℕ) → length env' ≡ length env → SameBetween temps next env env' → RowComes b env' temps (next + 1) (range_with_len (next + 1) n) rest) → RowComes (join a b) env temps next (range_with_len next (suc n)) (with_value g (λ x. with_value rest (λ row. Is (x ∷ row))))
   first_word a b env temps next n (Is x) rest le first second =
       let between : SameBetween temps next env first.env' = λ v low high. first.kept.others v (λ e. omega (arith, high, e)) (inr low) in
       word_first a b env first.env' temps next n x rest le first.word first.runs first.kept.same between first.holds (second first.env' first.kept.same between)
-  first_word a b env temps next n (Fails f) rest le first second = λ left. ends_there inputs a b env left f (first left)
+  first_word a b env temps next n (Fails f) rest le first second = λ left. is_over inputs a b [] (Failed f) env left (first left)
 
   module _ (kinds : List InputKind) (fits : Fits inputs kinds) (temps : ℕ) where
-    pub assigned : (es : List Term) (vars words : List ℕ) (next : ℕ) (env : List ℕ) → HaveWords es → AreBound (length vars) es → row_temps es ≤ temps → temps ≤ next → AllBetween temps next vars → AllWords words → words_at env vars ≡ words → next + length es ≤ length env → RowComes (assignments es vars next) env temps next (range_with_len next (length es)) (row_value es words inputs)
-    assigned [] vars words next env has bound few le between all there room =
+    pub assigned : (es : List Term) (vars words : List ℕ) (next : ℕ) (env : List ℕ) → AssignsRow temps vars next es → temps ≤ next → AllBetween temps next vars → AllWords words → words_at env vars ≡ words → next + length es ≤ length env → RowComes (assignments es vars next) env temps next (range_with_len next (length es)) (row_value es words inputs)
+    assigned [] vars words next env each le between all there room =
         record { env' = env; runs = λ left. refl; same = refl; between = λ v low high. refl; holds = refl; are_words = tt }
-    assigned (e ∷ es) vars words next env has bound few le between all there room =
+    assigned (e ∷ es) vars words next env each le between all there room =
         first_word (lowered_into vars e next 0) (assignments es vars (next + 1)) env temps next (length es) (value e words inputs) (row_value es words inputs) le
-        (value_comes vars words inputs e next 0 temps env (record {
-          has = has.0;
-          outside = inr le;
-          room = omega (arith, few);
-          inside = omega (arith, room);
-          within = omega (arith, room, le);
-          apart = row_apart vars next temps e between bound.0;
-          stands = row_stands inputs kinds fits vars words all env there e bound.0;
-        }))
-        (λ env' same kept. assigned es vars words (next + 1) env' has.1 bound.1 (omega (arith, few)) (omega (arith, le)) (more_between temps next (next + 1) vars (omega arith) between) all
+        (each.0.comes inputs words env (omega (arith, room)) (omega (arith, room, le)) (row_in_place inputs kinds fits vars words env all there))
+        (λ env' same kept. assigned es vars words (next + 1) env' each.1 (omega (arith, le)) (more_between temps next (next + 1) vars (omega arith) between) all
         (words_same temps next env env' vars kept between ∙ there) (omega (arith, room, same)))
 
     -- ---- the row of a stream
@@ -89,21 +86,21 @@ module _ (inputs : List Input) where
         both : (o : Got (List ℕ)) → RowComes b first.env' temps next (range_with_len next n) o → RowComes (join a b) env temps (temps + 1) (range_with_len next n) o
         both (Is row) last = record {
           env' = last.env';
-          runs = λ left. passes_on inputs a b env first.env' left (Runs [] last.env' left) (first.runs left) (last.runs left);
+          runs = λ left. passes_on a b env first.env' left (Runs [] last.env' left) (first.runs left) (last.runs left);
           same = last.same ∙ first.same;
           between = λ v low high. last.between v low (omega (arith, high, le)) ∙ first.between v low high;
           holds = last.holds;
           are_words = last.are_words;
         }
-        both (Fails e) last = λ left. passes_on inputs a b env first.env' left (Over [] (Failed e)) (first.runs left) (last left)
-    row_after a b env vars next n (Fails e) f le first second = λ left. ends_there inputs a b env left e (first left)
+        both (Fails e) last = λ left. passes_on a b env first.env' left (Over [] (Failed e)) (first.runs left) (last left)
+    row_after a b env vars next n (Fails e) f le first second = λ left. is_over inputs a b [] (Failed e) env left (first left)
 
     set_between : (env : List ℕ) (x : ℕ) → SameBetween temps (temps + 1) env (slice_set env (temps + 1) x)
     set_between env x v low high = get_or-set_other env (temps + 1) v x 0 (λ e. omega (arith, high, e))
 
     -- the statements of a row put its words into its variables
-    pub row_comes : (s : Pipe) (env : List ℕ) (x : ℕ) → IsChain s → HasRowWords s → stream_temps s ≤ temps → IsWord x → slice_get (items_in (slice_get inputs (source_of s))) (slice_index env temps) ≡ Some x → next_var temps s ≤ length env → RowComes (row_block temps s) env temps (temps + 1) (row_vars temps s) (row_from inputs s (x ∷ []))
-    row_comes (Array k) env x chain has few word item room = record {
+    pub row_comes : (s : Pipe) (env : List ℕ) (x : ℕ) → IsChain s → AssignsChain temps s → IsWord x → slice_get (items_in (slice_get inputs (source_of s))) (slice_index env temps) ≡ Some x → next_var temps s ≤ length env → RowComes (row_block temps s) env temps (temps + 1) (row_vars temps s) (row_from inputs s (x ∷ []))
+    row_comes (Array k) env x chain each word item room = record {
       env' = slice_set env (temps + 1) x;
       runs = λ left. ap (λ o. then_do (on_value (item_of o) (λ w. Runs [] (slice_set env (temps + 1) w) left)) (run inputs Nil)) item;
       same = length-set env (temps + 1) x;
@@ -111,13 +108,13 @@ module _ (inputs : List Input) where
       holds = ap (λ w. w ∷ []) (get_or-set_same env (temps + 1) x 0 (omega (arith, room)));
       are_words = (word, tt);
     }
-    row_comes (Map of body) env x chain has few word item room =
+    row_comes (Map of body) env x chain each word item room =
         let two = two_below temps of in
         row_after (row_block temps of) (assignments body (row_vars temps of) (next_var temps of)) env (row_vars temps of) (next_var temps of) (length body) (row_from inputs of (x ∷ [])) (λ words. row_value body words inputs) (omega (arith, two))
-        (row_comes of env x chain.0 has.0 (omega (arith, few)) word item (omega (arith, room)))
+        (row_comes of env x chain.0 each.0 word item (omega (arith, room)))
         (λ words env' same there all.
-        assigned body (row_vars temps of) words (next_var temps of) env' has.1 (subst (λ n. AreBound n body) (sym (vars_width temps of)) chain.1) (omega (arith, few)) (omega (arith, two)) (vars_between temps of) all there (omega (arith, room, same)))
-    row_comes _ env x chain has few word item room = absurd chain
+        assigned body (row_vars temps of) words (next_var temps of) env' each.1 (omega (arith, two)) (vars_between temps of) all there (omega (arith, room, same)))
+    row_comes _ env x chain each word item room = absurd chain
 
     -- ---- a turn
 
@@ -161,8 +158,8 @@ module _ (inputs : List Input) where
           index = get_or-set_same row.env' temps (sum_of index 1) 0 inside;
         }
     turn_after s t env (Fails f) built room row =
-        λ left. ends_there inputs (row_block temps s) (join (finish_block t (row_vars temps s)) (step_block temps)) env left f (row left)
+        λ left. is_over inputs (row_block temps s) (join (finish_block t (row_vars temps s)) (step_block temps)) [] (Failed f) env left (row left)
 
-    pub turned : (s : Pipe) (t : Finish) (env : List ℕ) (x : ℕ) → IsChain s → HasRowWords s → stream_temps s ≤ temps → IsTrue (is_built_finish t) → IsWord x → slice_get (items_in (slice_get inputs (source_of s))) (slice_index env temps) ≡ Some x → next_var temps s ≤ length env → TurnComes s t env (row_from inputs s (x ∷ []))
-    turned s t env x chain has few built word item room =
-        turn_after s t env (row_from inputs s (x ∷ [])) built room (row_comes s env x chain has few word item room)
+    pub turned : (s : Pipe) (t : Finish) (env : List ℕ) (x : ℕ) → IsChain s → AssignsChain temps s → IsTrue (is_built_finish t) → IsWord x → slice_get (items_in (slice_get inputs (source_of s))) (slice_index env temps) ≡ Some x → next_var temps s ≤ length env → TurnComes s t env (row_from inputs s (x ∷ []))
+    turned s t env x chain each built word item room =
+        turn_after s t env (row_from inputs s (x ∷ [])) built room (row_comes s env x chain each word item room)

@@ -1,5 +1,5 @@
 -- Words that stand in variables.
-use Rattle.std.proofs.Common.{◌≡◌, inr, ℕ, zero, suc, ◌+◌, ◌<◌, ◌≤◌, List, [], ◌∷◌, length, refl, ap, ◌∙◌, arith}
+use Rattle.std.proofs.Common.{◌≡◌, ℕ, zero, suc, ◌+◌, ◌<◌, ◌≤◌, List, [], ◌∷◌, length, refl, ap, ◌∙◌, arith}
 use Rattle.std.specs.Prelude.{slice_index, slice_get, All}
 use Rattle.std.specs.List.{range_with_len}
 use Rattle.strm_num.specs.Words.{IsWord}
@@ -8,10 +8,7 @@ use Rattle.list_denotation.specs.declared.input.Input.TheVariants as input
 use Rattle.list_denotation.specs.declared.input.InputKind.{InputKind}
 use Rattle.list_denotation.specs.declared.input.InputKind.TheVariants as kind
 use Rattle.list_denotation.specs.Inputs.{items_in, word_in, Fits}
-use Rattle.list_denotation.specs.Terms as term
-use Rattle.list_denotation.specs.Terms.{Term}
-use Rattle.expr_lower.specs.Scopes.{IsBound, Stands}
-use Rattle.expr_lower.proofs.Apart.{IsApart}
+use Rattle.expr_lower.specs.Scopes.{ScopeInPlace}
 
 -- the words of these variables
 abbrev pub words_at : List ℕ → List ℕ → List ℕ
@@ -90,36 +87,11 @@ input_words (i ∷ inputs) (kind ∷ kinds) (suc k) fits = rest (input_words inp
     rest : HasInputWords inputs k → HasInputWords (i ∷ inputs) (suc k)
     rest h = record { word = h.word; items = h.items; few = h.few }
 
--- ---- what an expression reads
+-- ---- words that stand in the variables of a row
 
-module _ (inputs : List Input) (kinds : List InputKind) (fits : Fits inputs kinds) (vars words : List ℕ) (all : AllWords words) (env : List ℕ) (there : words_at env vars ≡ words) where
-  pub row_stands : (e : Term) → IsBound (length vars) e → Stands vars words inputs e env
-  row_stands (term.Lit c) bound = tt
-  row_stands (term.Truth b) bound = tt
-  row_stands (term.Var k) bound = (word_at env vars k bound ∙ ap (λ ws. slice_index ws k) there, is_word_at words k all)
-  row_stands (term.Param k) bound = (input_words inputs kinds k fits).word
-  row_stands (term.Len k) bound = let few = (input_words inputs kinds k fits).few in omega (arith, few)
-  row_stands (term.Neg a) bound = row_stands a bound
-  row_stands (term.Not a) bound = row_stands a bound
-  row_stands (term.Bin o a b) bound = (row_stands a bound.0, row_stands b bound.1)
-  row_stands (term.And a b) bound = (row_stands a bound.0, row_stands b bound.1)
-  row_stands (term.Or a b) bound = (row_stands a bound.0, row_stands b bound.1)
-  row_stands (term.If c a b) bound = (row_stands c bound.0, (row_stands a bound.1.0, row_stands b bound.1.1))
-
--- a target behind the row's variables, which are behind the temporaries, is apart from what is read
-pub row_apart : (vars : List ℕ) (next temps : ℕ) (e : Term) → AllBetween temps next vars → IsBound (length vars) e → IsApart vars next 0 temps e
-row_apart vars next temps (term.Lit c) between bound = tt
-row_apart vars next temps (term.Truth b) between bound = tt
-row_apart vars next temps (term.Var k) between bound =
-    let at = between_at temps next vars k between bound in
-    let below : slice_index vars k < next = at.1 in
-    ((λ e. omega (arith, below, e)), inr at.0)
-row_apart vars next temps (term.Param k) between bound = tt
-row_apart vars next temps (term.Len k) between bound = tt
-row_apart vars next temps (term.Neg a) between bound = row_apart vars next temps a between bound
-row_apart vars next temps (term.Not a) between bound = row_apart vars next temps a between bound
-row_apart vars next temps (term.Bin o a b) between bound = (row_apart vars next temps a between bound.0, row_apart vars next temps b between bound.1)
-row_apart vars next temps (term.And a b) between bound = (row_apart vars next temps a between bound.0, row_apart vars next temps b between bound.1)
-row_apart vars next temps (term.Or a b) between bound = (row_apart vars next temps a between bound.0, row_apart vars next temps b between bound.1)
-row_apart vars next temps (term.If c a b) between bound =
-    (row_apart vars next temps c between bound.0, (row_apart vars next temps a between bound.1.0, row_apart vars next temps b between bound.1.1))
+pub row_in_place : (inputs : List Input) (kinds : List InputKind) → Fits inputs kinds → (vars words env : List ℕ) → AllWords words → words_at env vars ≡ words → ScopeInPlace vars words inputs env
+row_in_place inputs kinds fits vars words env all there = record {
+  in_variables = λ k lt. record { same = word_at env vars k lt ∙ ap (λ ws. slice_index ws k) there; word = is_word_at words k all };
+  ints = λ k. (input_words inputs kinds k fits).word;
+  lengths = λ k. let few = (input_words inputs kinds k fits).few in omega (arith, few);
+}

@@ -1,30 +1,46 @@
 //! The loop program of a pipeline.
 
-ghost use Rattle.std.specs.Prelude.{◌≡◌, ◌+◌, ◌<◌, ◌^◌, IsTrue, IfOk, OnOk, []};
+ghost use Rattle.std.specs.Prelude.{◌≡◌, ◌+◌, ◌<◌, ◌^◌, IsTrue, IfOk, OnOk};
 ghost use Rattle.list_denotation.specs.Copies.{pipe_of, finish_of};
 ghost use Rattle.list_denotation.specs.Pipelines.{pipeline_of};
 ghost use Rattle.loop_ir.specs.Statements.{Nil, Cons, Set as SetVar, join};
 ghost use Rattle.loop_ir.specs.StatementCopies.{operand_of, block_of};
 ghost use Rattle.loop_ir.specs.Routines.{routine_of};
 ghost use Rattle.loop_emit.specs.Built.{is_built_finish, is_built};
-ghost use Rattle.loop_emit.specs.Chains.{IsChain, HasRowWords};
+ghost use Rattle.loop_emit.specs.Chains.{IsChain};
 ghost use Rattle.loop_emit.specs.Emission.{stream_temps, next_var, source_of, print_block, finish_block, step_block, turn_block, routine_block};
 ghost use Rattle.loop_emit.specs.Headline.{IsEmitted};
+ghost use Rattle.loop_emit.specs.Laws.{Laws};
 
 use crate::rows::row;
 use crate::temporaries::stream_temps;
-use list_denotation::{Program, Stream, Terminal};
+use expr_lower::{expressions_are_lowered, scopes_hold_expressions, temporaries_are_few};
+use list_denotation::{
+    Program, Stream, Terminal, typed_expressions_read_the_scope, typed_programs_keep_limits,
+};
 use loop_ir::{Prog, Stmt, Stmts, T, W, WOp};
 use state_alloc::Slots;
 use std::alloc::Global;
 use strm_num::{List, NoMemory};
 
+// What the crates below promise of their definitions.
+fn laws_below()
+    ensures { Laws }
+{
+    typed_programs_keep_limits();
+    typed_expressions_read_the_scope();
+    temporaries_are_few();
+    expressions_are_lowered();
+    scopes_hold_expressions();
+}
+
 /// The loop program of a pipeline that is built. It gives `NoMemory` where memory is refused.
-#[tactic(auto, using(crate::proofs::Compiled::typed_facts))]
+#[tactic(auto, using(crate::proofs::Compiled::built_stream, crate::proofs::Compiled::printed_finish))]
 pub fn emit(alloc: Global, p: &Program) -> Result<Prog, NoMemory>
     requires built { IsTrue (is_built (pipeline_of p.now)) }
     ensures { IfOk result (λ q. IsEmitted (pipeline_of p.now) (routine_of q)) }
 {
+    laws_below();
     let temps = stream_temps(&p.stream);
     let (body, vars) = statements(alloc, p, temps)?;
     let params = List::from_slice(alloc, p.inputs.as_slice())?;
@@ -34,11 +50,13 @@ pub fn emit(alloc: Global, p: &Program) -> Result<Prog, NoMemory>
 // The statements of the program, and how many variables there are.
 #[tactic(auto, using(crate::proofs::Appends::turn_steps))]
 fn statements(alloc: Global, p: &Program, temps: u32) -> Result<(Stmts, u32), NoMemory>
-    requires built { IsTrue (is_built (pipeline_of p.now)) }
+    requires chain { IsChain (pipe_of p.now.stream) }
+    requires printed { IsTrue (is_built_finish (finish_of p.now.terminal)) }
     requires temps { temps ≡ stream_temps (pipe_of p.now.stream) }
-    ensures block { IfOk result (λ it. block_of it.0 ≡ routine_block temps (pipe_of p.now.stream) (finish_of p.now.terminal)) }
+    requires few { next_var temps (pipe_of p.now.stream) < 2 ^ 32 }
+    ensures block { IfOk result (λ it. block_of it.0
+        ≡ routine_block temps (pipe_of p.now.stream) (finish_of p.now.terminal)) }
     ensures vars { IfOk result (λ it. it.1 ≡ next_var temps (pipe_of p.now.stream)) }
-    ensures words { IfOk result (λ it. HasRowWords (pipe_of p.now.stream)) }
 {
     let (turn, vars) = turn(alloc, p, temps)?;
     let mut body = Stmts::new(alloc);
@@ -47,34 +65,24 @@ fn statements(alloc: Global, p: &Program, temps: u32) -> Result<(Stmts, u32), No
     Ok((body, vars))
 }
 
-// The scope behind the temporaries and the index, whose variable is the first behind the temporaries.
-fn scope_behind_index(alloc: Global, temps: u32) -> Result<Slots, NoMemory>
-    requires { temps + 1 < 2 ^ 32 }
-    ensures rows { IfOk result (λ slots. slots.rows ≡ []) }
-    ensures first_temp { IfOk result (λ slots. slots.first_temp ≡ 0) }
-    ensures temps { IfOk result (λ slots. slots.temps ≡ temps) }
-    ensures next { IfOk result (λ slots. slots.next ≡ temps + 1) }
-{
-    let mut slots = Slots::new(alloc, temps);
-    slots.bind(1)?;
-    slots.unbind(1);
-    Ok(slots)
-}
-
-// The statements of one turn, and how many variables there are.
+// The statements of one turn, and how many variables there are. The index stands in the first
+// variable behind the temporaries.
 #[tactic(auto, using(crate::proofs::Appends::turn_steps))]
 fn turn(alloc: Global, p: &Program, temps: u32) -> Result<(Stmts, u32), NoMemory>
-    requires built { IsTrue (is_built (pipeline_of p.now)) }
+    requires chain { IsChain (pipe_of p.now.stream) }
+    requires printed { IsTrue (is_built_finish (finish_of p.now.terminal)) }
     requires temps { temps ≡ stream_temps (pipe_of p.now.stream) }
-    ensures block { IfOk result (λ it. block_of it.0 ≡ turn_block temps (pipe_of p.now.stream) (finish_of p.now.terminal)) }
+    requires few { next_var temps (pipe_of p.now.stream) < 2 ^ 32 }
+    ensures block { IfOk result (λ it. block_of it.0
+        ≡ turn_block temps (pipe_of p.now.stream) (finish_of p.now.terminal)) }
     ensures vars { IfOk result (λ it. it.1 ≡ next_var temps (pipe_of p.now.stream)) }
-    ensures words { IfOk result (λ it. HasRowWords (pipe_of p.now.stream)) }
 {
     let mut block = Stmts::new(alloc);
-    let scope = scope_behind_index(alloc, temps)?;
-    let slots = row(alloc, &p.stream, temps, scope, &mut block)?;
+    let mut scope = Slots::new(alloc, temps);
+    let index = scope.reserve_variables(1);
+    let slots = row(alloc, &p.stream, index, scope, &mut block)?;
     finish(&p.terminal, &slots, &mut block)?;
-    block.push(Stmt::Set(temps, next_index(alloc, temps)?))?;
+    block.push(Stmt::Set(index, next_index(alloc, index)?))?;
     Ok((block, slots.next))
 }
 
@@ -92,7 +100,8 @@ fn source(s: &Stream) -> u32
 // Appends what is done with a row.
 fn finish(terminal: &Terminal, slots: &Slots, block: &mut Stmts) -> Result<(), NoMemory>
     requires built { IsTrue (is_built_finish (finish_of terminal.now)) }
-    ensures { OnOk result (block_of block.new ≡ join (block_of block.old) (finish_block (finish_of terminal.now) slots.now.rows)) }
+    ensures { OnOk result (block_of block.new ≡ join (block_of block.old)
+        (finish_block (finish_of terminal.now) slots.now.rows)) }
 {
     match terminal {
         Terminal::Print => print_row(slots, block),
@@ -102,7 +111,8 @@ fn finish(terminal: &Terminal, slots: &Slots, block: &mut Stmts) -> Result<(), N
 
 #[tactic(auto, using(crate::proofs::Appends::print_steps))]
 fn print_row(slots: &Slots, block: &mut Stmts) -> Result<(), NoMemory>
-    ensures { OnOk result (block_of block.new ≡ join (block_of block.old) (print_block slots.now.rows)) }
+    ensures { OnOk result (block_of block.new ≡ join (block_of block.old)
+        (print_block slots.now.rows)) }
 {
     for i in 0..slots.rows.len() {
         block.push(Stmt::Emit(W::Var(*slots.rows.get(i) as u32)))?;

@@ -3,7 +3,6 @@ use Rattle.std.specs.List.{range_with_len}
 use Rattle.list_denotation.specs.Copies.{terms_of}
 use Rattle.loop_ir.specs.Statements.{join}
 use Rattle.loop_ir.specs.StatementCopies.{block_of}
-use Rattle.loop_emit.specs.Chains.{HaveWords}
 use Rattle.loop_emit.specs.Emission.{assignments}
 use Rattle.loop_emit.proofs.rows.map_row.Given as goal
 
@@ -14,4 +13,3 @@ invariant-loop-i l =
     × (l.made.next ≡ l.slots.next + l.i)
     × (l.made.first_temp ≡ 0)
     × (l.made.temps ≡ l.slots.temps)
-    × (HaveWords (terms_of (drop l.i l.body)) → HaveWords (terms_of l.body))

@@ -1,0 +1,15 @@
+use Rattle.expr_lower.proofs.laws.laws_below.Goals as goal
+
+pub returns : goal.returns
+returns c = record {
+  minus_value = c.opposites_negate.ensures.words;
+  opposite_value = c.opposites_negate.ensures.tests;
+  opposite_leaves = c.opposites_negate.ensures.leaves;
+  comparison_value = c.comparisons_tell_the_signed_order.ensures.truth;
+  comparison_leaves = c.comparisons_tell_the_signed_order.ensures.leaves;
+  division_assigns = c.divisions_assign_signed_results.ensures.assigns;
+  division_word = c.divisions_assign_signed_results.ensures.words;
+  division_leaves = c.divisions_assign_signed_results.ensures.leaves;
+  division_few = c.divisions_assign_signed_results.ensures.few;
+  division_loops = c.divisions_assign_signed_results.ensures.no_loops;
+}

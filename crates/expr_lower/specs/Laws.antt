@@ -1,0 +1,41 @@
+-- The laws of the phrases that the statements of expressions rest on.
+use Rattle.std.specs.Prelude.{◌≡◌, ◌≤◌, ℕ, Bool, not, List, Option, IsTrue}
+use Rattle.strm_num.specs.Words.{IsWord, negation_of}
+use Rattle.list_denotation.specs.declared.expr.BinOp.{BinOp}
+use Rattle.list_denotation.specs.declared.input.Input.{Input}
+use Rattle.list_denotation.specs.Values.{Trap, Is, unless_zero}
+use Rattle.loop_ir.specs.Counts.{block_count, block_loops}
+use Rattle.loop_ir.specs.Leaves.{operand_leaves, test_leaves, block_leaves}
+use Rattle.loop_ir.specs.Meaning.{operand_value, test_value}
+use Rattle.loop_ir.specs.Statements.{Operand, Const, Var, Test}
+use Rattle.expr_phrases.specs.Phrases.{Division, minus, opposite, comparison_test, by_divisor}
+use Rattle.expr_phrases.specs.Results.{comparison_truth, result_of, IsWordConstant, HasValue, Assigns}
+
+pub record Laws : Type 0 where
+  -- of a minus, and of the opposite of a test
+  pub minus_value : (inputs : List Input) (w : Operand) (x : ℕ) (env : List ℕ)
+      → operand_value inputs w env ≡ Is x → operand_value inputs (minus w) env ≡ Is (negation_of x)
+  pub opposite_value : (inputs : List Input) (t : Test) (env : List ℕ) (truth : Bool)
+      → test_value inputs t env ≡ Is truth → test_value inputs (opposite t) env ≡ Is (not truth)
+  pub opposite_leaves : (passes : Operand → Bool) (t : Test)
+      → IsTrue (test_leaves passes t) → IsTrue (test_leaves passes (opposite t))
+  -- of comparisons
+  pub comparison_value : (inputs : List Input) (o : BinOp) (a b : Operand) (x y : ℕ) (env : List ℕ)
+      → IsWord x → IsWord y → operand_value inputs a env ≡ Is x → operand_value inputs b env ≡ Is y
+      → test_value inputs (comparison_test o a b) env ≡ Is (comparison_truth o x y)
+  pub comparison_leaves : (passes : Operand → Bool) (o : BinOp) (a b : Operand)
+      → ((c : ℕ) → IsWord c → IsTrue (passes (Const c)))
+      → IsTrue (operand_leaves passes a) → IsTrue (operand_leaves passes b)
+      → IsTrue (test_leaves passes (comparison_test o a b))
+  -- of divisions
+  pub division_assigns : (inputs : List Input) (d : Division) (m n : Option ℕ) (a b : Operand) (x y v : ℕ) (env : List ℕ)
+      → HasValue inputs m a x env → HasValue inputs n b y env
+      → Assigns inputs (by_divisor d m n a b v) v (unless_zero Trap y (result_of d x y)) env
+  pub division_word : (d : Division) (x y : ℕ) → IsWord (result_of d x y)
+  pub division_leaves : (passes : Operand → Bool) (d : Division) (m n : Option ℕ) (a b : Operand) (v : ℕ)
+      → ((c : ℕ) → IsWord c → IsTrue (passes (Const c)))
+      → IsWordConstant m → IsWordConstant n → IsTrue (passes (Var v))
+      → IsTrue (operand_leaves passes a) → IsTrue (operand_leaves passes b)
+      → IsTrue (block_leaves passes (by_divisor d m n a b v))
+  pub division_few : (d : Division) (m n : Option ℕ) (a b : Operand) (v : ℕ) → block_count (by_divisor d m n a b v) ≤ 9
+  pub division_loops : (d : Division) (m n : Option ℕ) (a b : Operand) (v : ℕ) → block_loops (by_divisor d m n a b v) ≡ 0

@@ -1,0 +1,5 @@
+pub mod Phrases
+pub mod Simple
+pub mod PhraseCopies
+pub mod Results
+pub mod Laws
