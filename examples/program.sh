@@ -1,10 +1,9 @@
 # Sourced by scripts that run the program: sets `program` to the executable that the gate leaves, and
-# `work` to a folder that is gone when the script ends.
+# `work` to a folder that is gone when the script ends. Where the program isn't built, the script ends
+# with a line that says how to get it.
 # shellcheck shell=bash
-program=$(cd "$(dirname "${BASH_SOURCE[0]}")/../crates/strymonas_cli" && pwd)/out/strymonas_cli
-if [ ! -x "$program" ]; then
-  echo "there is no $program: rt ci leaves it there"
-  exit 1
-fi
+top=$(cd "$(dirname "${BASH_SOURCE[0]}")/.." && pwd)
+program=$top/crates/strymonas_cli/out/strymonas_cli
+[ -x "$program" ] || exec "$top/strymonas"
 work=$(mktemp -d)
 trap 'rm -rf "$work"' EXIT

@@ -1,16 +1,20 @@
 #!/usr/bin/env bash
-# Compiles the C texts of examples with a real C compiler and compares what they print, and the
-# number that they return, with values worked out by hand. The text of squares.strm is the stored
-# one, which the gate compared with what the program writes; the others are written here by the
-# program that the gate leaves.
+# Compiles the C texts of examples with a real C compiler, each with the program that driver.sh writes for
+# it, and compares what they print, and the number that they return, with values worked out by hand. The
+# text of squares.strm is the stored one, which the gate compared with what the program writes; the others
+# are written here by the program that the gate leaves.
 set -eu
 cd "$(dirname "$0")"
 . ../program.sh
+here=$PWD
 inputs=0
+examples=0
 
-# built NAME: makes a program of the C text of NAME.strm and the driver
+# built NAME: makes a program of the C text of NAME.strm
 built() {
-  cc -std=c11 -Wall -Wextra -Werror -I. driver.c "$work/$1.c" -o "$work/$1"
+  (cd "$work" && "$here/driver.sh" "$1.c") >"$work/$1-main.c"
+  cc -std=c11 -Wall -Wextra -Werror -I. "$work/$1-main.c" -o "$work/$1"
+  examples=$((examples + 1))
 }
 
 # compiled NAME: writes the C text of NAME.strm and makes a program of it
@@ -19,14 +23,23 @@ compiled() {
   built "$1"
 }
 
-# gives NAME INPUT ROWS STATUS: over these values NAME.strm prints these rows, each ended by a comma
-# here, and the function returns this number
+# gives NAME ROWS STATUS INPUT..: over these inputs, each an int or the items of an array in brackets,
+# NAME.strm prints these rows, each ended by a comma here, and the program ends with this number
 gives() {
+  name=$1 wanted="$2 $3"
+  shift 3
+  words=()
+  for input in "$@"; do
+    case $input in
+      '['*) printf '%s\n' "${input//[][]/}" >"$work/array-${#words[@]}" && words+=("$work/array-${#words[@]}") ;;
+      *) words+=("$input") ;;
+    esac
+  done
   status=0
-  printf '%s' "$2" | "$work/$1" >"$work/rows" || status=$?
-  got=$(tr '\n' ',' <"$work/rows")
-  if [ "$got" != "$3" ] || [ "$status" != "$4" ]; then
-    echo "over '$2' the C text of $1.strm prints '$got' and returns $status, not '$3' and $4"
+  "$work/$name" "${words[@]}" >"$work/rows" 2>"$work/said" || status=$?
+  got="$(tr '\n' ',' <"$work/rows") $status"
+  if [ "$got" != "$wanted" ]; then
+    echo "over '$*' the C text of $name.strm prints and returns '$got', not '$wanted': $(cat "$work/said")"
     exit 1
   fi
   inputs=$((inputs + 1))
@@ -34,22 +47,29 @@ gives() {
 
 cp ../../crates/strymonas_cli/stdout "$work/squares.c"
 built squares
-gives squares '3 -2' '10,5,' 0
-gives squares '-9223372036854775808' '1,' 0
-gives squares '9223372036854775807' '2,' 0
-gives squares '0' '1,' 0
-gives squares '' '' 0
+gives squares '10,5,' 0 '[3 -2]'
+gives squares '1,' 0 '[-9223372036854775808]'
+gives squares '2,' 0 '[9223372036854775807]'
+gives squares '1,' 0 '[0]'
+gives squares '' 0 '[]'
 
 compiled by_minus_one
-gives by_minus_one '-9223372036854775808' '-9223372036854775808 0,' 0
+gives by_minus_one '-9223372036854775808 0,' 0 '[-9223372036854775808]'
 
 compiled halves
-gives halves '-7 7' '-3 -1 3 -1,3 1 -3 1,' 0
+gives halves '-3 -1 3 -1,3 1 -3 1,' 0 '[-7 7]'
 
 compiled guarded_quotients
-gives guarded_quotients '0 5' '0,2,' 0
+gives guarded_quotients '0,2,' 0 '[0 5]'
 
 compiled quotients
-gives quotients '5 2 0' '2,5,' 1
+gives quotients '2,5,' 1 '[5 2 0]'
 
-echo "the C texts of 5 examples give what was worked out by hand, for $inputs inputs"
+# an int, an array and an int: what isn't given, or is no number, runs nothing
+compiled surcharge
+gives surcharge '115,60,' 0 5 '[100 50]' 10
+gives surcharge '' 2 5 '[100 50]'
+gives surcharge '' 2 five '[100 50]' 10
+gives surcharge '' 2 5 '[100 9223372036854775808]' 10
+
+echo "the C texts of $examples examples give what was worked out by hand, for $inputs inputs"

@@ -5,21 +5,21 @@ use Rattle.pipe_lexer.specs.declared.token.Token.{Token}
 use Rattle.pipe_lexer.specs.declared.fault.LexFault.TheVariants as lex
 use Rattle.pipe_lexer.specs.Lexing as lexing
 use Rattle.pipe_lexer.specs.Lexing.{IsLexed, LexesAs}
-use Rattle.pipe_grammar.specs.declared.fault.ParseFault.TheVariants as parse
-use Rattle.pipe_grammar.specs.Parsing as parsing
-use Rattle.pipe_grammar.specs.Parsing.{ParsesAs}
-use Rattle.pipe_grammar.specs.Tokens.{Tok, toks_of}
-use Rattle.pipe_grammar.specs.Trees.{Text}
-use Rattle.pipe_types.specs.declared.fault.TypeFault.TheVariants as types
-use Rattle.pipe_types.specs.Checked.{Checked}
-use Rattle.pipe_types.specs.Checking.{check_of}
-use Rattle.strymonas_run.specs.declared.refusal.Refusal.{Refusal}
-use Rattle.strymonas_run.specs.declared.refusal.RefusalKind.{RefusalKind}
-use Rattle.strymonas_run.specs.declared.refusal.RefusalKind.TheVariants.{NotUtf8, BadChar, NumberTooLarge, Syntax, TooDeep, TooManyInputs, TooManyOps, TooManyNodes, Unknown, Twice, Mismatch, WidthMismatch, TooWide, DivisionInOpening, NotArray}
+use Rattle.pipe_tree.specs.declared.fault.ParseFault.TheVariants as parse
+use Rattle.pipe_tree.specs.Parsing as parsing
+use Rattle.pipe_tree.specs.Parsing.{ParsesAs}
+use Rattle.pipe_tree.specs.Tokens.{Tok, toks_of}
+use Rattle.pipe_tree.specs.Trees.{Text}
+use Rattle.kind_rules.specs.declared.fault.TypeFault.TheVariants as types
+use Rattle.kind_rules.specs.Checked.{Checked}
+use Rattle.kind_rules.specs.Checking.{check_of}
+use Rattle.status_lines.specs.declared.refusals.Refusal.{Refusal}
+use Rattle.status_lines.specs.declared.refusals.RefusalKind.{RefusalKind}
+use Rattle.status_lines.specs.declared.refusals.RefusalKind.TheVariants.{NotUtf8, BadChar, NumberTooLarge, Syntax, TooDeep, TooManyInputs, TooManyOps, TooManyNodes, Unknown, Twice, Mismatch, WidthMismatch, TooWide, DivisionInOpening, NotArray}
 use Rattle.strymonas_run.specs.PipelineFile.{HasTree}
 use Rattle.strymonas_run.specs.Refusals.{IsRefusedAt, HasRefusal}
 
--- what each step of reading is answered with
+-- what each step of outcome is answered with
 abbrev pub EachLexes : Type 0
 EachLexes = (src : List ℕ) → (a : lexing.Answer) × (LexesAs src a × (a ≢ Err lex.NoMemory))
 

@@ -1,7 +1,5 @@
-pub mod PrintedText
-pub mod ReportLemmas
-pub mod Readings
-pub mod OneReading
-pub mod Outputs
-pub mod Comings
+pub mod ReadingSteps
+pub mod OneOutcome
+pub mod JobOutputs
+pub mod StatusConditions
 pub mod EachRefusal

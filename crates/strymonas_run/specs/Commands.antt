@@ -14,15 +14,22 @@ abbrev pub job_named : List ℕ → Option Job
 job_named command =
     if bytes_eq command (codes "compile") then Some Compile else if bytes_eq command (codes "check") then Some Check else None
 
--- what the words ask for, where they are a command: compile FILE, or check FILE
+-- what the texts ask for, where they are a command: compile FILE, or check FILE
 abbrev pub job_of : List (List ℕ) → Option Job
 job_of [] = None
 job_of (command ∷ []) = None
 job_of (command ∷ file ∷ []) = job_named command
 job_of (command ∷ file ∷ more ∷ rest) = None
 
--- the file that the words name
+-- the file that the texts name
 abbrev pub file_of : List (List ℕ) → List ℕ
 file_of [] = []
 file_of (command ∷ []) = []
 file_of (command ∷ file ∷ rest) = file
+
+-- the same of words as the program gets them
+abbrev pub asked_job : List (String Global) → Option Job
+asked_job words = job_of (texts_of words)
+
+abbrev pub asked_file : List (String Global) → List ℕ
+asked_file words = file_of (texts_of words)

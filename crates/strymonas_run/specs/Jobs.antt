@@ -6,23 +6,24 @@ use Rattle.strm_io.specs.Store.{Store, held}
 use Rattle.strm_io.specs.Writing.{Appends}
 use Rattle.strm_io.specs.Appending.{AppendsPrefix}
 use Rattle.list_denotation.specs.Terms.{Pipeline}
+use Rattle.pipe_limits.specs.declared.TheConstants.{MOST_BYTES}
 use Rattle.strymonas_run.specs.declared.commands.Job.{Job}
 use Rattle.strymonas_run.specs.declared.commands.Job.TheVariants.{Compile, Check}
-use Rattle.strymonas_run.specs.declared.refusal.Refusal.{Refusal}
-use Rattle.strymonas_run.specs.declared.refusal.RefusalKind.TheVariants.{Unbuilt}
-use Rattle.strymonas_run.specs.declared.refusal.TextFault.{TextFault}
-use Rattle.strymonas_run.specs.declared.refusal.TextFault.TheVariants as text
-use Rattle.strymonas_run.specs.declared.statuses.Status.{Status}
-use Rattle.strymonas_run.specs.declared.statuses.Status.TheVariants.{Done, Words, Missing, Refused, ReadFault, WriteFault, NoMemory, TooLong}
+use Rattle.strymonas_run.specs.declared.text_faults.TextFault.{TextFault}
+use Rattle.strymonas_run.specs.declared.text_faults.TextFault.TheVariants as text
+use Rattle.status_lines.specs.declared.refusals.Refusal.{Refusal}
+use Rattle.status_lines.specs.declared.refusals.RefusalKind.TheVariants.{Unbuilt}
+use Rattle.status_lines.specs.declared.statuses.Status.{Status}
+use Rattle.status_lines.specs.declared.statuses.Status.TheVariants.{Done, Words, Missing, Refused, ReadFault, WriteFault, NoMemory, TooLong}
 use Rattle.loop_emit.specs.Built.{is_built}
 use Rattle.strymonas_run.specs.PipelineFile.{IsPipelineFile}
 use Rattle.strymonas_run.specs.Refusals.{IsRefused}
-use Rattle.strymonas_run.specs.Reading.{IsReading}
+use Rattle.strymonas_run.specs.ReadOutcomes.{IsOnlyOutcome}
 use Rattle.loop_ir.specs.Statements.{Routine}
-use Rattle.loop_ir.specs.DeclaredNames.{declared_names, block_names}
+use Rattle.loop_ir.specs.WellFormed.{IsWellFormed}
 use Rattle.loop_ir.specs.Layout.{layout}
 use Rattle.loop_emit.specs.Headline.{IsEmitted}
-use Rattle.strymonas_run.specs.CountLines.{counts_text}
+use Rattle.count_lines.specs.CountLines.{counts_text}
 
 -- ---- what a job takes, and what it writes
 
@@ -34,7 +35,7 @@ takes Compile p = is_built p
 -- the bytes are the C text of a program of the pipeline
 pub record IsTextOf (p : Pipeline) (c : List ℕ) : Type 0 where
   pub routine : Routine
-  pub declared : IsTrue (block_names (declared_names routine.params routine.vars) routine.body)
+  pub well_formed : IsWellFormed routine
   pub text : c ≡ layout routine
   pub emitted : IsEmitted p routine
 
@@ -45,7 +46,7 @@ Writes Compile p c = IsTextOf p c
 -- the file is one pipeline and nothing else, and the bytes are what the job writes of it
 pub record IsOutputOf (job : Job) (src c : List ℕ) : Type 0 where
   pub pipeline : Pipeline
-  pub reading : IsReading src (Ok pipeline)
+  pub outcome : IsOnlyOutcome src (Ok pipeline)
   pub taken : IsTrue (takes job pipeline)
   pub output : Writes job pipeline c
 
@@ -80,7 +81,7 @@ Holds (Some store) name file = held store name ≡ file
 -- the file is longer than a pipeline text may be, where the store tells
 abbrev pub HoldsTooLong : Option Store → List ℕ → Type 0
 HoldsTooLong None name = Unit {0}
-HoldsTooLong (Some store) name = IsSomeAnd (held store name) (λ src. 65536 < length src)
+HoldsTooLong (Some store) name = IsSomeAnd (held store name) (λ src. MOST_BYTES < length src)
 
 -- what the job writes of the file was written so
 pub record WritesOutput (job : Job) (store : Option Store) (name : List ℕ) (writes : List ℕ → Type 0) : Type 0 where
@@ -94,7 +95,7 @@ pub record WritesOutput (job : Job) (store : Option Store) (name : List ℕ) (wr
 pub record RefusesFile (job : Job) (store : Option Store) (name : List ℕ) (r : Refusal) : Type 0 where
   pub src : List ℕ
   pub holds : Holds store name (Some src)
-  pub within : length src ≤ 65536
+  pub within : length src ≤ MOST_BYTES
   pub refuses : Refuses job src r
 
 -- what each status says of the file and of what was written
@@ -140,16 +141,16 @@ abbrev pub IsMissingFile : Job → Option (List ℕ) → Type 0
 IsMissingFile job file = file ≡ None
 
 abbrev pub IsTooLongFile : Job → Option (List ℕ) → Type 0
-IsTooLongFile job file = IsSomeAnd file (λ src. 65536 < length src)
+IsTooLongFile job file = IsSomeAnd file (λ src. MOST_BYTES < length src)
 
 -- the file is held, isn't too long, and is no pipeline that the job takes
 abbrev pub IsNoPipeline : Job → Option (List ℕ) → Type 0
 IsNoPipeline job file =
-    IsSomeAnd file (λ src. (length src ≤ 65536) × ((p : Pipeline) → IsPipelineFile src p → IsTrue (takes job p) → ⊥))
+    IsSomeAnd file (λ src. (length src ≤ MOST_BYTES) × ((p : Pipeline) → IsPipelineFile src p → IsTrue (takes job p) → ⊥))
 
 -- the file is held, isn't too long, and there is this reason
 abbrev pub IsRefusedFile : Refusal → Job → Option (List ℕ) → Type 0
-IsRefusedFile r job file = IsSomeAnd file (λ src. (length src ≤ 65536) × IsRefusedBy job src r)
+IsRefusedFile r job file = IsSomeAnd file (λ src. (length src ≤ MOST_BYTES) × IsRefusedBy job src r)
 
 -- the status names some reason
 abbrev pub IsRefusal : Status → Type 0

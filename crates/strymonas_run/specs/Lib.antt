@@ -1,7 +1,5 @@
 pub mod PipelineFile
 pub mod Refusals
-pub mod Reading
-pub mod CountLines
+pub mod ReadOutcomes
 pub mod Commands
-pub mod Statuses
 pub mod Jobs

@@ -4,18 +4,18 @@ use Rattle.std.specs.Prelude.{◌≡◌, ℕ, List, length, Option, Some, None, 
 use Rattle.pipe_lexer.specs.declared.token.Token.{Token}
 use Rattle.pipe_lexer.specs.declared.fault.LexFault.TheVariants as lex
 use Rattle.pipe_lexer.specs.Lexing.{IsLexed, LexesAs}
-use Rattle.pipe_grammar.specs.declared.fault.ParseFault.{ParseFault}
-use Rattle.pipe_grammar.specs.declared.fault.ParseFault.TheVariants as parse
-use Rattle.pipe_grammar.specs.Trees.{Text}
-use Rattle.pipe_grammar.specs.Tokens.{toks_of}
-use Rattle.pipe_grammar.specs.Parsing.{ParsesAs}
-use Rattle.pipe_types.specs.declared.fault.TypeFault.{TypeFault}
-use Rattle.pipe_types.specs.declared.fault.TypeFault.TheVariants as types
-use Rattle.pipe_types.specs.Checking.{check_of, IsTyped}
+use Rattle.pipe_tree.specs.declared.fault.ParseFault.{ParseFault}
+use Rattle.pipe_tree.specs.declared.fault.ParseFault.TheVariants as parse
+use Rattle.pipe_tree.specs.Trees.{Text}
+use Rattle.pipe_tree.specs.Tokens.{toks_of}
+use Rattle.pipe_tree.specs.Parsing.{ParsesAs}
+use Rattle.kind_rules.specs.declared.fault.TypeFault.{TypeFault}
+use Rattle.kind_rules.specs.declared.fault.TypeFault.TheVariants as types
+use Rattle.kind_rules.specs.Checking.{check_of, IsTyped}
 use Rattle.list_denotation.specs.Terms.{Pipeline}
-use Rattle.strymonas_run.specs.declared.refusal.Refusal.{Refusal}
-use Rattle.strymonas_run.specs.declared.refusal.RefusalKind.{RefusalKind}
-use Rattle.strymonas_run.specs.declared.refusal.RefusalKind.TheVariants.{NotUtf8, BadChar, NumberTooLarge, Syntax, TooDeep, TooManyInputs, TooManyOps, TooManyNodes, Unknown, Twice, Mismatch, WidthMismatch, TooWide, DivisionInOpening, NotArray, Unbuilt}
+use Rattle.status_lines.specs.declared.refusals.Refusal.{Refusal}
+use Rattle.status_lines.specs.declared.refusals.RefusalKind.{RefusalKind}
+use Rattle.status_lines.specs.declared.refusals.RefusalKind.TheVariants.{NotUtf8, BadChar, NumberTooLarge, Syntax, TooDeep, TooManyInputs, TooManyOps, TooManyNodes, Unknown, Twice, Mismatch, WidthMismatch, TooWide, DivisionInOpening, NotArray, Unbuilt}
 use Rattle.strymonas_run.specs.PipelineFile.{HasTree}
 
 -- the bytes have tokens, and these have this fault

@@ -1,9 +1,9 @@
 ghost use Rattle.std.specs.Prelude.{◌≡◌};
-ghost use Rattle.strymonas_run.specs.Commands.{texts_of, job_named, job_of};
+ghost use Rattle.strymonas_run.specs.Commands.{asked_job, job_named};
 
 /// What the program is asked to do with the pipeline in the file that word 1 names. Word 0 is the
 /// command.
-#[derive(Clone, Copy, Debug, PartialEq, Eq)]
+#[derive(Clone, Copy)]
 pub enum Job {
     /// Write its C text.
     Compile,
@@ -14,7 +14,7 @@ pub enum Job {
 /// What the words ask for, and none exactly where they are no command. The commands are
 /// `compile FILE` and `check FILE`.
 pub fn read_words(words: &[String]) -> Option<Job>
-    ensures { result ≡ job_of (texts_of words.now) }
+    ensures { result ≡ asked_job words.now }
 {
     match words {
         [command, _] => job_named(command.as_str()),

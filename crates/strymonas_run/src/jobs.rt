@@ -1,21 +1,20 @@
 //! What each command does with a file.
 
-ghost use Rattle.std.specs.Prelude.{◌≤◌, length};
+ghost use Rattle.std.specs.Prelude.{◌≡◌, ◌≤◌, length};
 ghost use Rattle.list_denotation.specs.Pipelines.{pipeline_of};
-ghost use Rattle.strymonas_run.specs.Jobs.{AnswersFile, HasCause, MakesText, MakesTextOf, WritesSource};
+ghost use Rattle.strymonas_run.specs.Jobs.{AnswersFile, HasCause, MakesText, MakesTextOf};
+ghost use Rattle.strymonas_run.specs.Jobs.{WritesSource};
 
 use crate::commands::Job;
 use crate::compiling::c_text;
-use crate::counting::counts_text;
 use crate::reading::read_pipeline;
-use crate::refusal::TextFault;
-use crate::statuses::Status;
+use crate::text_faults::TextFault;
+use count_lines::counts_text;
 use list_denotation::Program;
+use pipe_limits::MOST_BYTES;
+use status_lines::Status;
 use std::alloc::Global;
 use strm_io::{Files, LoadFault, Sink, load, put_all};
-
-/// The most bytes of a pipeline text.
-const MOST_BYTES: u64 = 65_536;
 
 /// Does the job for the pipeline in the named file, and writes what it gives.
 pub fn do_job<F: Files, O: Sink>(
@@ -25,9 +24,15 @@ pub fn do_job<F: Files, O: Sink>(
     files: &mut F,
     out: &mut O,
 ) -> Status
-    ensures answers { AnswersFile job (F.holds files.old) name.now (O.written out.old) (O.written out.new) result }
-    ensures cause { HasCause (F.misses files.old) (F.misses files.new) (F.faults files.old) (F.faults files.new)
-        (O.faults out.old) (O.faults out.new) result }
+    ensures answers { AnswersFile job (F.holds files.old) name.now
+        (O.written out.old) (O.written out.new) result }
+    ensures cause { HasCause (F.misses files.old) (F.misses files.new)
+        (F.faults files.old) (F.faults files.new) (O.faults out.old) (O.faults out.new) result }
+
+    ensures holds { F.holds files.new ≡ F.holds files.old }
+    ensures misses { F.misses files.old ≤ F.misses files.new }
+    ensures read_faults { F.faults files.old ≤ F.faults files.new }
+    ensures write_faults { O.faults out.old ≤ O.faults out.new }
 {
     match load(alloc, files, name, MOST_BYTES) {
         Ok(src) => write_text(alloc, job, src.as_slice(), out),
@@ -40,8 +45,10 @@ pub fn do_job<F: Files, O: Sink>(
 
 // Writes what the job gives for a pipeline text.
 fn write_text<O: Sink>(alloc: Global, job: Job, src: &[u8], out: &mut O) -> Status
-    requires { length src.now ≤ 65536 }
-    ensures answers { WritesSource job src.now (O.written out.old) (O.written out.new) (O.faults out.old) (O.faults out.new) result }
+    requires { length src.now ≤ MOST_BYTES }
+    ensures answers { WritesSource job src.now (O.written out.old) (O.written out.new)
+        (O.faults out.old) (O.faults out.new) result }
+    ensures faults { O.faults out.old ≤ O.faults out.new }
 {
     match text_of_source(alloc, job, src) {
         Ok(text) => match put_all(out, text.as_slice()) {
@@ -55,7 +62,7 @@ fn write_text<O: Sink>(alloc: Global, job: Job, src: &[u8], out: &mut O) -> Stat
 
 // What the job gives for a pipeline text, or why there is nothing.
 fn text_of_source(alloc: Global, job: Job, src: &[u8]) -> Result<Vec<u8>, TextFault>
-    requires { length src.now ≤ 65536 }
+    requires { length src.now ≤ MOST_BYTES }
     ensures { MakesText job src.now result }
 {
     let program = read_pipeline(alloc, src)?;

@@ -2,20 +2,22 @@
 
 ghost use Rattle.std.specs.Prelude.{◌≡◌, ◌≢◌, ◌≤◌, ◌↔◌, ℕ, List, Option, None, length};
 ghost use Rattle.list_denotation.specs.Terms.{Pipeline};
+ghost use Rattle.pipe_limits.specs.declared.TheConstants.{MOST_BYTES};
+ghost use Rattle.status_lines.specs.declared.refusals.Refusal.{Refusal};
+ghost use Rattle.status_lines.specs.declared.refusals.RefusalKind.TheVariants.{Unbuilt};
 ghost use Rattle.strymonas_run.specs.declared.commands.Job.TheVariants.{Check};
-ghost use Rattle.strymonas_run.specs.declared.refusal.RefusalKind.TheVariants.{Unbuilt};
 ghost use Rattle.strymonas_run.specs.Jobs.{IsRefusedBy};
 ghost use Rattle.strymonas_run.specs.PipelineFile.{IsPipelineFile};
 ghost use Rattle.strymonas_run.specs.Refusals.{HasRefusal};
-ghost use Rattle.strymonas_run.specs.declared.refusal.Refusal.{Refusal};
 
-use pipe_grammar::{answers_are_one, tokens_have_an_answer};
+use kind_rules::trees_have_an_answer;
 use pipe_lexer::{texts_have_an_answer, texts_have_one_answer};
-use pipe_types::trees_have_an_answer;
+use pipe_reader::{answers_are_one, tokens_have_an_answer};
 
 /// A file is one pipeline at most.
 pub fn files_are_one_pipeline()
-    ensures { (src : List ℕ) (p q : Pipeline) → IsPipelineFile src p → IsPipelineFile src q → p ≡ q }
+    ensures { (src : List ℕ) (p q : Pipeline) →
+        IsPipelineFile src p → IsPipelineFile src q → p ≡ q }
 {
     texts_have_one_answer();
     answers_are_one();
@@ -23,7 +25,8 @@ pub fn files_are_one_pipeline()
 
 /// A file has one refusal at most, and none beside it.
 pub fn files_have_one_refusal()
-    ensures { (src : List ℕ) (a b : Option Refusal) → HasRefusal src a → HasRefusal src b → a ≡ b }
+    ensures { (src : List ℕ) (a b : Option Refusal) →
+        HasRefusal src a → HasRefusal src b → a ≡ b }
 {
     texts_have_one_answer();
     answers_are_one();
@@ -40,7 +43,8 @@ pub fn each_file_has_its_refusal()
 
 /// A file of at most 65,536 bytes has no refusal exactly where it is some pipeline.
 pub fn pipelines_have_no_refusal()
-    ensures { (src : List ℕ) → length src ≤ 65536 → HasRefusal src None ↔ ((p : Pipeline) × IsPipelineFile src p) }
+    ensures { (src : List ℕ) → length src ≤ MOST_BYTES →
+        HasRefusal src None ↔ ((p : Pipeline) × IsPipelineFile src p) }
 {}
 
 /// `check` refuses no file as `Unbuilt`.

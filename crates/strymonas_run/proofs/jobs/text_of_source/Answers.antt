@@ -1,5 +1,5 @@
 use Rattle.list_denotation.specs.Pipelines.{pipeline_of}
-use Rattle.strymonas_run.proofs.Outputs.{made, failed}
+use Rattle.strymonas_run.proofs.JobOutputs.{made, failed}
 use Rattle.strymonas_run.proofs.jobs.text_of_source.Goals as goal
 
 pub returns-in_err-program : goal.returns-in_err-program

@@ -1,4 +1,4 @@
-use Rattle.strymonas_run.proofs.Outputs.{check_is_built}
+use Rattle.strymonas_run.proofs.JobOutputs.{check_is_built}
 use Rattle.strymonas_run.proofs.laws.checks_are_never_unbuilt.Goals as goal
 
 pub returns : goal.returns

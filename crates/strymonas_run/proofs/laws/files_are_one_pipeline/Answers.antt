@@ -1,4 +1,4 @@
-use Rattle.strymonas_run.proofs.OneReading.{one_pipeline}
+use Rattle.strymonas_run.proofs.OneOutcome.{one_pipeline}
 use Rattle.strymonas_run.proofs.laws.files_are_one_pipeline.Goals as goal
 
 pub returns : goal.returns

@@ -1,4 +1,4 @@
-use Rattle.strymonas_run.proofs.OneReading.{one_refusal}
+use Rattle.strymonas_run.proofs.OneOutcome.{one_refusal}
 use Rattle.strymonas_run.proofs.laws.files_have_one_refusal.Goals as goal
 
 pub returns : goal.returns

@@ -1,0 +1,51 @@
+-- One text written after another, and a line that is reported.
+use Rattle.std.proofs.Common.{◌≡◌, inl, inr, ℕ, ◌+◌, ◌≤◌, List, [], ◌++◌, length, take, Option, Some, None, Result, Ok, Err, sym, ap, ◌∙◌, subst, append_assoc, append-nil, length-append, arith}
+use Rattle.std.proofs.lemmas.List.{take-append-le}
+use Rattle.std.proofs.Math.Seq.{take-append-add}
+use Rattle.strm_io.specs.Writing.{Appends}
+use Rattle.strm_io.specs.Appending.{PutsAll, WriteHasCause}
+use Rattle.strm_io.specs.declared.appending.WriteFault.{WriteFault}
+use Rattle.status_lines.specs.StatusLines.{Reports}
+
+appends_then : (a b c : Option (List ℕ)) (x y : List ℕ) → Appends a b x → Appends b c y → Appends a c (x ++ y)
+appends_then None b c x y h k = tt
+appends_then (Some w) None c x y h k = absurd cc
+appends_then (Some w) (Some v) c x y h k =
+    let e : v ≡ w ++ x = cc in
+    k ∙ ap (λ l. Some (l ++ y)) e ∙ ap Some (append_assoc w x y)
+
+take_within : (x y : List ℕ) (n : ℕ) → n ≤ length x → take n (x ++ y) ≡ take n x
+take_within x y n h = take-append-le n x y h
+
+pub puts_cut : (a b : Option (List ℕ)) (x y : List ℕ) (e : WriteFault) → PutsAll a b x (Err e) → PutsAll a b (x ++ y) (Err e)
+puts_cut a b x y e h =
+    record {
+      count = h.count;
+      within = omega (arith, h.within, length-append x y);
+      appended = subst (λ l. Appends a b l) (sym (take_within x y h.count h.within)) h.appended;
+    }
+
+pub puts_then : (a b c : Option (List ℕ)) (x y : List ℕ) (r : Result (Unit {0}) WriteFault) → Appends a b x → PutsAll b c y r → PutsAll a c (x ++ y) r
+puts_then a b c x y (Ok u) h k = appends_then a b c x y h k
+puts_then a b c x y (Err e) h k =
+    record {
+      count = length x + k.count;
+      within = omega (arith, k.within, length-append x y);
+      appended = subst (λ l. Appends a c l) (sym (take-append-add x y k.count)) (appends_then a b c x (take k.count y) h k.appended);
+    }
+
+pub reported : (a b : Option (List ℕ)) (line : List ℕ) (faults faults' : ℕ) (r : Result (Unit {0}) WriteFault) → PutsAll a b line r → WriteHasCause faults faults' r → Reports a b line faults faults'
+reported a b line faults faults' (Ok u) h k = inl h
+reported a b line faults faults' (Err e) h k = inr (h, k)
+
+unchanged : (a : Option (List ℕ)) → Appends a a []
+unchanged None = tt
+unchanged (Some w) = ap Some (sym (append-nil w))
+
+-- nothing is reported where all was done
+pub not_reported : (a b : Option (List ℕ)) (faults faults' : ℕ) → b ≡ a → Reports a b [] faults faults'
+not_reported a b faults faults' e = inl (subst (λ c. Appends a c []) (sym e) (unchanged a))
+
+pub ruleset puts = (puts_cut, puts_then)
+
+pub ruleset reports = (reported, not_reported)

@@ -1,8 +1,0 @@
-use Rattle.strymonas_run.proofs.PrintedText.{moved_on, more_params_next}
-use Rattle.strymonas_run.proofs.c_printer.frame.put_more_params.Goals as goal
-
-pub loop-k-preserved : goal.loop-k-preserved
-loop-k-preserved c =
-    moved_on _ _ _ _ _ _ c.in_ok-put_other_param.ensures
-    (more_params_next c.loop-k.k c.args.params.now c.get.result.now c.get.ensures)
-    c.loop-k.invariant
