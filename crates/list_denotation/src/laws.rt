@@ -1,43 +1,16 @@
 //! Laws of the definitions. These functions do nothing: their contracts are the laws.
 
-ghost use Rattle.std.specs.Prelude.{◌≡◌, ◌≢◌, ◌≤◌, ◌+◌, ℕ, List, [], length, IsTrue, IsSome};
-ghost use Rattle.list_denotation.specs.declared.input.Input.{Input};
+ghost use Rattle.std.specs.Prelude.{List, [], length, IsTrue, IsSome};
 ghost use Rattle.list_denotation.specs.declared.input.InputKind.{InputKind};
 ghost use Rattle.list_denotation.specs.declared.kind.Kind.{Kind};
 ghost use Rattle.list_denotation.specs.declared.stream.Stream.{Stream};
 ghost use Rattle.list_denotation.specs.declared.terminal.Terminal.{Terminal};
 ghost use Rattle.list_denotation.specs.Copies.{pipe_of, finish_of};
-ghost use Rattle.list_denotation.specs.Far.{Far};
 ghost use Rattle.list_denotation.specs.InputNames.{declared_inputs, names_inputs};
 ghost use Rattle.list_denotation.specs.Limits.{IsWithinLimits};
-ghost use Rattle.list_denotation.specs.Observation.{Failed, Seen, observation};
 ghost use Rattle.list_denotation.specs.Scopes.{is_bound};
-ghost use Rattle.list_denotation.specs.Terms.{Term, Pipeline};
+ghost use Rattle.list_denotation.specs.Terms.{Term};
 ghost use Rattle.list_denotation.specs.Typing.{kind_of, stream_kinds, has_kinds, is_typed};
-ghost use Rattle.list_denotation.specs.Values.{Stuck};
-ghost use Rattle.list_denotation.specs.Work.{work};
-
-/// What is seen of a pipeline is never undefined: at each input and bound it is done, going, or
-/// over at a trap.
-pub fn no_observation_is_stuck()
-    ensures { (p : Pipeline) (inputs : List Input) (n : ℕ)
-        → (observation p inputs n).standing ≢ Failed Stuck }
-{}
-
-/// With one pull more, what is seen of a pipeline goes at least as far: it is the same, or it was
-/// still going and its events begin those that are seen then. And its work isn't less.
-pub fn observations_grow()
-    ensures far { (p : Pipeline) (inputs : List Input) (n : ℕ)
-        → Far (observation p inputs n) (observation p inputs (n + 1)) }
-    ensures work { (p : Pipeline) (inputs : List Input) (n : ℕ)
-        → work p inputs n ≤ work p inputs (n + 1) }
-{}
-
-/// `Far` is an order: it is transitive, and two that are as far as one another are the same.
-pub fn far_is_an_order()
-    ensures transitive { (o u w : Seen) → Far o u → Far u w → Far o w }
-    ensures antisymmetric { (o u : Seen) → Far o u → Far u o → o ≡ u }
-{}
 
 /// A typed program is within each of the limits, and the rows of its stream have kinds.
 pub fn typed_programs_keep_limits()

@@ -6,7 +6,8 @@
 //! work, its counts, the kinds of its rows, and when one observation is as far as another. The
 //! crates above prove themselves against those definitions. `Program` keeps that it is typed and
 //! within the limits, and that its numbers are words; the counts and `row_kinds` are what their
-//! definitions say of it. `no_observation_is_stuck` and the other laws are of definitions alone.
+//! definitions say of it. The laws say what follows of a program or an expression that is typed;
+//! the laws of values, rows and observations stand in denotation_laws.
 #![tactic(auto)]
 
 mod counts;
@@ -25,10 +26,7 @@ pub use event::{Event, Events};
 pub use expr::{BinOp, Expr, Exprs};
 pub use input::{Input, InputKind, InputKinds, Inputs, Words};
 pub use kind::{Kind, Kinds};
-pub use laws::{
-    far_is_an_order, no_observation_is_stuck, observations_grow, typed_expressions_read_the_scope,
-    typed_programs_keep_limits,
-};
+pub use laws::{typed_expressions_read_the_scope, typed_programs_keep_limits};
 pub use program::Program;
 pub use stream::Stream;
 pub use terminal::Terminal;

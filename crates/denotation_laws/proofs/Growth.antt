@@ -1,0 +1,106 @@
+-- With one pull more, a pipeline's rows go at least as far, and so do what is seen of them and its work.
+use Rattle.std.proofs.Common.{◌≡◌, ℕ, zero, suc, ◌+◌, ◌≤◌, List, [], ◌∷◌, ◌++◌, subst, arith}
+use Rattle.std.specs.Prelude.{slice_get}
+use Rattle.strm_num.specs.Words.{signed}
+use Rattle.list_denotation.specs.declared.input.Input.{Input}
+use Rattle.list_denotation.specs.Terms.{Pipe, Array, Range, Unfold, Map, Filter, Take, Drop, TakeWhile, Scan, FlatMap, Zip, Pipeline}
+use Rattle.list_denotation.specs.Inputs.{items_in}
+use Rattle.list_denotation.specs.Values.{Got, value, row_value}
+use Rattle.list_denotation.specs.Rows.{End, Cut, Broken, Rows, firsts, single_rows, unfold_rows}
+use Rattle.list_denotation.specs.Denotation.{count_of, words_between, denotation}
+use Rattle.list_denotation.specs.Observation.{observation}
+use Rattle.list_denotation.specs.Far.{Far}
+use Rattle.list_denotation.specs.Work.{row_count, after_end, sum_over, stream_work, work}
+use Rattle.denotation_laws.specs.FarRows.{FarRows, CutOff, SameEnd, SameRow}
+use Rattle.denotation_laws.proofs.FarStages.{unless_far, choice_far, map_far, filter_far, take_far, drop_far, take_while_far, scan_far, join_far, zip_far, finish_far}
+
+-- ---- sources
+
+firsts_far : (n : ℕ) (rs : List (List ℕ)) → FarRows (firsts n rs) (firsts (suc n) rs)
+firsts_far n [] = SameEnd End
+firsts_far zero (r ∷ rs) = CutOff _
+firsts_far (suc n) (r ∷ rs) = SameRow r (firsts_far n rs)
+
+unfold_far : (guard : List ℕ → Got ℕ) (item next : List ℕ → Got (List ℕ)) (n : ℕ) (state : List ℕ) → FarRows (unfold_rows guard item next n state) (unfold_rows guard item next (suc n) state)
+unfold_far guard item next zero state = unless_far (guard state) _ _ (λ w. choice_far w _ _ _ _ (SameEnd End) (CutOff _))
+unfold_far guard item next (suc n) state =
+    unless_far (guard state) _ _ (λ w. choice_far w _ _ _ _ (SameEnd End)
+    (unless_far (item state) _ _ (λ r. unless_far (next state) _ _ (λ s. SameRow r (unfold_far guard item next n s)))))
+
+-- ---- streams
+
+module _ (inputs : List Input) (n : ℕ) where
+  stream_far : (p : Pipe) (env : List ℕ) → FarRows (denotation p env inputs n) (denotation p env inputs (suc n))
+  stream_far (Array k) env = firsts_far n (single_rows (items_in (slice_get inputs k)))
+  stream_far (Range a b) env =
+      unless_far (value a env inputs) _ _ (λ low. unless_far (value b env inputs) _ _ (λ high. firsts_far n (single_rows (words_between low high))))
+  stream_far (Unfold seed guard item next) env = unless_far (row_value seed env inputs) _ _ (λ s. unfold_far _ _ _ n s)
+  stream_far (Map of body) env = map_far (λ r. row_value body (env ++ r) inputs) (stream_far of env)
+  stream_far (Filter of e) env = filter_far (λ r. value e (env ++ r) inputs) (stream_far of env)
+  stream_far (Take of e) env = unless_far (value e env inputs) _ _ (λ k. take_far (count_of (signed k)) (stream_far of env))
+  stream_far (Drop of e) env = unless_far (value e env inputs) _ _ (λ k. drop_far (count_of (signed k)) (stream_far of env))
+  stream_far (TakeWhile of e) env = take_while_far (λ r. value e (env ++ r) inputs) (stream_far of env)
+  stream_far (Scan of seed next) env =
+      unless_far (row_value seed env inputs) _ _ (λ s.
+      scan_far (λ state r. row_value next (env ++ (state ++ r)) inputs) s (stream_far of env))
+  stream_far (FlatMap of inner) env =
+      join_far (λ r. denotation inner (env ++ r) inputs n) (λ r. denotation inner (env ++ r) inputs (suc n)) (stream_far of env)
+      (λ r among. stream_far inner (env ++ r))
+  stream_far (Zip left right) env = zip_far (stream_far left env) (stream_far right env)
+
+one_more : (n : ℕ) → suc n ≡ n + 1
+one_more n = omega arith
+
+pub rows_grow : (p : Pipe) (env : List ℕ) (inputs : List Input) (n : ℕ) → FarRows (denotation p env inputs n) (denotation p env inputs (n + 1))
+rows_grow p env inputs n = subst (λ m. FarRows (denotation p env inputs n) (denotation p env inputs m)) (one_more n) (stream_far inputs n p env)
+
+pub observation_grows : (p : Pipeline) (inputs : List Input) (n : ℕ) → Far (observation p inputs n) (observation p inputs (n + 1))
+observation_grows p inputs n = finish_far p.terminal inputs (rows_grow p.stream [] inputs n)
+
+-- ---- work
+
+count_far : {o u : Rows} → FarRows o u → row_count o ≤ row_count u
+count_far (CutOff u) = omega arith
+count_far (SameEnd e) = omega arith
+count_far (SameRow r h) = omega (arith, count_far h)
+
+after_far : (m n : ℕ) {a b : Rows} → FarRows a b → m ≤ n → after_end a m 0 ≤ after_end b n 0
+after_far m n (CutOff u) le = omega arith
+after_far m n (SameEnd End) le = le
+after_far m n (SameEnd Cut) le = omega arith
+after_far m n (SameEnd (Broken e)) le = omega arith
+after_far m n (SameRow r h) le = after_far m n h le
+
+module _ (f g : List ℕ → Rows) (part more : List ℕ → ℕ) (rows : (r : List ℕ) → FarRows (f r) (g r)) (parts : (r : List ℕ) → part r ≤ more r) where
+  sum_far : {o u : Rows} → FarRows o u → sum_over o f part ◌+◌ 0 ≤ sum_over u g more ◌+◌ 0
+  sum_far (CutOff u) = omega arith
+  sum_far (SameEnd e) = omega arith
+  sum_far (SameRow r {o} {u} h) =
+      let rest = after_far (sum_over o f part ◌+◌ 0) (sum_over u g more ◌+◌ 0) (rows r) (sum_far h) in omega (arith, parts r, rest)
+
+module _ (inputs : List Input) (n : ℕ) where
+  source_grows : (p : Pipe) (env : List ℕ) → row_count (denotation p env inputs n) + 1 ≤ row_count (denotation p env inputs (suc n)) + 1
+  source_grows p env = omega (arith, count_far (stream_far inputs n p env))
+
+  stream_work_grows : (p : Pipe) (env : List ℕ) → stream_work p env inputs n ≤ stream_work p env inputs (suc n)
+  stream_work_grows (Array k) env = source_grows (Array k) env
+  stream_work_grows (Range a b) env = source_grows (Range a b) env
+  stream_work_grows (Unfold seed guard item next) env = source_grows (Unfold seed guard item next) env
+  stream_work_grows (Map of body) env = stream_work_grows of env
+  stream_work_grows (Filter of e) env = stream_work_grows of env
+  stream_work_grows (Take of e) env = stream_work_grows of env
+  stream_work_grows (Drop of e) env = stream_work_grows of env
+  stream_work_grows (TakeWhile of e) env = stream_work_grows of env
+  stream_work_grows (Scan of seed next) env = stream_work_grows of env
+  stream_work_grows (FlatMap of inner) env =
+      let inner_rows = λ (r : List ℕ). stream_far inputs n inner (env ++ r) in
+      let inner_work = λ (r : List ℕ). stream_work_grows inner (env ++ r) in
+      let sum = sum_far (λ r. denotation inner (env ++ r) inputs n) (λ r. denotation inner (env ++ r) inputs (suc n))
+      (λ r. stream_work inner (env ++ r) inputs n) (λ r. stream_work inner (env ++ r) inputs (suc n)) inner_rows inner_work
+      (stream_far inputs n of env) in
+      omega (arith, stream_work_grows of env, sum)
+  stream_work_grows (Zip left right) env = omega (arith, stream_work_grows left env, stream_work_grows right env)
+
+pub work_grows : (p : Pipeline) (inputs : List Input) (n : ℕ) → work p inputs n ≤ work p inputs (n + 1)
+work_grows p inputs n =
+    subst (λ m. work p inputs n ≤ work p inputs m) (one_more n) (stream_work_grows inputs n p.stream [])

@@ -1,0 +1,10 @@
+pub mod NeverStuck
+pub mod FarOrder
+pub mod FarRowsOrder
+pub mod FarStages
+pub mod Growth
+pub mod ScopedValues
+pub mod ValueWords
+pub mod StreamRows
+pub mod TypedStreams
+pub mod RangeSteps

@@ -1,0 +1,4 @@
+pub mod RowWords
+pub mod Widths
+pub mod FarRows
+pub mod StreamScopes
