@@ -1,4 +1,4 @@
--- How far lists of rows are is an order, and what it says in other words.
+-- How far lists of rows are is an order, and that one that is cut short is as far as the other.
 use Rattle.std.proofs.Common.{◌≡◌, ◌⊎◌, inl, inr, ℕ, List, [], ◌∷◌, refl, sym, ap, subst}
 use Rattle.list_denotation.specs.Rows.{Cut, Rows, Ends, Row}
 use Rattle.denotation_laws.specs.FarRows.{FarRows, CutOff, SameEnd, SameRow, rows_before, IsCutShort}
@@ -24,23 +24,23 @@ far_rows_same (CutOff u) k = sym (cut_same k)
 far_rows_same (SameEnd e) k = refl
 far_rows_same (SameRow r h) k = ap (Row r) (far_rows_same h (rest_far k))
 
--- ---- in other words
+-- ---- cut short
 
-row_said : (r : List ℕ) (o u : Rows) → (o ≡ u) ⊎ IsCutShort o u → (Row r o ≡ Row r u) ⊎ IsCutShort (Row r o) (Row r u)
-row_said r o u (inl e) = inl (ap (Row r) e)
-row_said r o u (inr c) = inr (record { rows = r ∷ c.rows; rest = c.rest; cut = ap (Row r) c.cut; prefix = ap (Row r) c.prefix })
+row_cut_short : (r : List ℕ) (o u : Rows) → (o ≡ u) ⊎ IsCutShort o u → (Row r o ≡ Row r u) ⊎ IsCutShort (Row r o) (Row r u)
+row_cut_short r o u (inl e) = inl (ap (Row r) e)
+row_cut_short r o u (inr c) = inr (record { rows = r ∷ c.rows; rest = c.rest; cut = ap (Row r) c.cut; prefix = ap (Row r) c.prefix })
 
-pub far_said : {o u : Rows} → FarRows o u → (o ≡ u) ⊎ IsCutShort o u
-far_said (CutOff u) = inr (record { rows = []; rest = u; cut = refl; prefix = refl })
-far_said (SameEnd e) = inl refl
-far_said (SameRow r {o} {u} h) = row_said r o u (far_said h)
+pub far_cut_short : {o u : Rows} → FarRows o u → (o ≡ u) ⊎ IsCutShort o u
+far_cut_short (CutOff u) = inr (record { rows = []; rest = u; cut = refl; prefix = refl })
+far_cut_short (SameEnd e) = inl refl
+far_cut_short (SameRow r {o} {u} h) = row_cut_short r o u (far_cut_short h)
 
 cut_before : (rs : List (List ℕ)) (rest : Rows) → FarRows (rows_before rs (Ends Cut)) (rows_before rs rest)
 cut_before [] rest = CutOff rest
 cut_before (r ∷ rs) rest = SameRow r (cut_before rs rest)
 
-pub said_far : (o u : Rows) → (o ≡ u) ⊎ IsCutShort o u → FarRows o u
-said_far o u (inl e) = subst (λ v. FarRows o v) e (far_itself o)
-said_far o u (inr c) =
+pub cut_short_far : (o u : Rows) → (o ≡ u) ⊎ IsCutShort o u → FarRows o u
+cut_short_far o u (inl e) = subst (λ v. FarRows o v) e (far_itself o)
+cut_short_far o u (inr c) =
     subst (λ v. FarRows v u) (sym c.cut)
     (subst (λ v. FarRows (rows_before c.rows (Ends Cut)) v) (sym c.prefix) (cut_before c.rows c.rest))

@@ -1,5 +1,5 @@
 -- With one pull more, a pipeline's rows go at least as far, and so do what is seen of them and its work.
-use Rattle.std.proofs.Common.{◌≡◌, ℕ, zero, suc, ◌+◌, ◌≤◌, List, [], ◌∷◌, ◌++◌, subst, arith}
+use Rattle.std.proofs.Common.{◌≡◌, ℕ, zero, suc, ◌+◌, ◌-◌, ◌≤◌, List, [], ◌∷◌, ◌++◌, subst, arith}
 use Rattle.std.specs.Prelude.{slice_get}
 use Rattle.strm_num.specs.Words.{signed}
 use Rattle.list_denotation.specs.declared.input.Input.{Input}
@@ -12,6 +12,7 @@ use Rattle.list_denotation.specs.Observation.{observation}
 use Rattle.list_denotation.specs.Far.{Far}
 use Rattle.list_denotation.specs.Work.{row_count, after_end, sum_over, stream_work, work}
 use Rattle.denotation_laws.specs.FarRows.{FarRows, CutOff, SameEnd, SameRow}
+use Rattle.denotation_laws.proofs.FarRowsOrder.{far_itself, far_rows_trans}
 use Rattle.denotation_laws.proofs.FarStages.{unless_far, choice_far, map_far, filter_far, take_far, drop_far, take_while_far, scan_far, join_far, zip_far, finish_far}
 
 -- ---- sources
@@ -48,6 +49,19 @@ module _ (inputs : List Input) (n : ℕ) where
       (λ r among. stream_far inner (env ++ r))
   stream_far (Zip left right) env = zip_far (stream_far left env) (stream_far right env)
 
+-- ---- any greater bound
+
+-- what holds from each number to the next, holds from one number to any that isn't less
+module _ (R : ℕ → ℕ → Type 0) (itself : (n : ℕ) → R n n) (further : (l m n : ℕ) → R l m → R m n → R l n) (step : (n : ℕ) → R n (n + 1)) where
+  climb_by : (n k : ℕ) → R n (n + k)
+  climb_by n zero = let e : n ≡ n + 0 = omega arith in subst (λ m. R n m) e (itself n)
+  climb_by n (suc k) =
+      let e : n + k + 1 ≡ n + suc k = omega arith in
+      further n (n + k) (n + suc k) (climb_by n k) (subst (λ m. R (n + k) m) e (step (n + k)))
+
+  climb : (n m : ℕ) → n ≤ m → R n m
+  climb n m le = let e : n + (m - n) ≡ m = omega arith in subst (λ x. R n x) e (climb_by n (m - n))
+
 one_more : (n : ℕ) → suc n ≡ n + 1
 one_more n = omega arith
 
@@ -56,6 +70,14 @@ rows_grow p env inputs n = subst (λ m. FarRows (denotation p env inputs n) (den
 
 pub observation_grows : (p : Pipeline) (inputs : List Input) (n : ℕ) → Far (observation p inputs n) (observation p inputs (n + 1))
 observation_grows p inputs n = finish_far p.terminal inputs (rows_grow p.stream [] inputs n)
+
+pub rows_grow_on : (p : Pipe) (env : List ℕ) (inputs : List Input) (n m : ℕ) → n ≤ m → FarRows (denotation p env inputs n) (denotation p env inputs m)
+rows_grow_on p env inputs n m le =
+    climb (λ a b. FarRows (denotation p env inputs a) (denotation p env inputs b)) (λ a. far_itself (denotation p env inputs a))
+    (λ a b c h k. far_rows_trans h k) (λ a. rows_grow p env inputs a) n m le
+
+pub observation_grows_on : (p : Pipeline) (inputs : List Input) (n m : ℕ) → n ≤ m → Far (observation p inputs n) (observation p inputs m)
+observation_grows_on p inputs n m le = finish_far p.terminal inputs (rows_grow_on p.stream [] inputs n m le)
 
 -- ---- work
 
@@ -104,3 +126,7 @@ module _ (inputs : List Input) (n : ℕ) where
 pub work_grows : (p : Pipeline) (inputs : List Input) (n : ℕ) → work p inputs n ≤ work p inputs (n + 1)
 work_grows p inputs n =
     subst (λ m. work p inputs n ≤ work p inputs m) (one_more n) (stream_work_grows inputs n p.stream [])
+
+pub work_grows_on : (p : Pipeline) (inputs : List Input) (n m : ℕ) → n ≤ m → work p inputs n ≤ work p inputs m
+work_grows_on p inputs n m le =
+    climb (λ a b. work p inputs a ≤ work p inputs b) (λ a. omega arith) (λ a b c h k. omega arith) (λ a. work_grows p inputs a) n m le

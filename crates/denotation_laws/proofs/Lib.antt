@@ -3,6 +3,7 @@ pub mod FarOrder
 pub mod FarRowsOrder
 pub mod FarStages
 pub mod Growth
+pub mod JoinedRows
 pub mod ScopedValues
 pub mod ValueWords
 pub mod StreamRows

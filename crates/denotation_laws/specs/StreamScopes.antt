@@ -1,4 +1,4 @@
--- What the expressions of a stream may read, each over the bound words of its place.
+-- What the expressions of a stream may read, each over the bound words of its scope.
 use Rattle.std.specs.Prelude.{◌≡◌, ℕ, ◌+◌, ◌≤◌, List, length, IsTrue}
 use Rattle.pipe_limits.specs.declared.TheConstants.{MOST_COMPONENTS}
 use Rattle.list_denotation.specs.Terms.{Term, Pipe, Array, Range, Unfold, Map, Filter, Take, Drop, TakeWhile, Scan, FlatMap, Zip, Finish, Fold, Print}
@@ -10,14 +10,14 @@ use Rattle.denotation_laws.specs.Widths.{stream_width}
 
 -- ---- expressions
 
--- an expression over n bound words reads these alone, names inputs as they may be named, and its numbers are words
-pub record IsOver (may : InputNames) (n : ℕ) (e : Term) : Type 0 where
+-- an expression reads the first n bound words alone, names inputs as they may be named, and its numbers are words
+pub record ReadsScope (may : InputNames) (n : ℕ) (e : Term) : Type 0 where
   pub bound : IsTrue (is_bound n e)
   pub names : IsTrue (names_inputs may e)
   pub words : IsTrue (has_words e)
 
--- a row of such expressions
-pub record IsRowOver (may : InputNames) (n : ℕ) (es : List Term) : Type 0 where
+-- the same of a row, of 1 to 8 expressions
+pub record RowReadsScope (may : InputNames) (n : ℕ) (es : List Term) : Type 0 where
   pub bound : IsTrue (all_bound n es)
   pub names : IsTrue (all_name_inputs may es)
   pub words : IsTrue (all_have_words es)
@@ -26,45 +26,45 @@ pub record IsRowOver (may : InputNames) (n : ℕ) (es : List Term) : Type 0 wher
 
 -- an opening expression has no division
 pub record IsOpening (may : InputNames) (n : ℕ) (e : Term) : Type 0 where
-  pub over : IsOver may n e
+  pub reads : ReadsScope may n e
   pub undivided : IsTrue (is_undivided e)
 
 pub record IsSeed (may : InputNames) (n : ℕ) (es : List Term) : Type 0 where
-  pub over : IsRowOver may n es
+  pub reads : RowReadsScope may n es
   pub undivided : IsTrue (all_undivided es)
 
 -- ---- streams
 
 -- the seed of a state, and the next state over the state and a row of this width
-pub record IsStateOver (may : InputNames) (n width : ℕ) (seed next : List Term) : Type 0 where
-  pub seed_over : IsSeed may n seed
-  pub next_over : IsRowOver may (n + length seed + width) next
+pub record StateReadsScope (may : InputNames) (n width : ℕ) (seed next : List Term) : Type 0 where
+  pub seed_reads : IsSeed may n seed
+  pub next_reads : RowReadsScope may (n + length seed + width) next
   pub same_width : length next ≡ length seed
 
-pub record IsUnfoldOver (may : InputNames) (n : ℕ) (seed : List Term) (guard : Term) (item next : List Term) : Type 0 where
-  pub seed_over : IsSeed may n seed
-  pub guard_over : IsOpening may (n + length seed) guard
-  pub item_over : IsRowOver may (n + length seed) item
-  pub next_over : IsRowOver may (n + length seed) next
+pub record UnfoldReadsScope (may : InputNames) (n : ℕ) (seed : List Term) (guard : Term) (item next : List Term) : Type 0 where
+  pub seed_reads : IsSeed may n seed
+  pub guard_reads : IsOpening may (n + length seed) guard
+  pub item_reads : RowReadsScope may (n + length seed) item
+  pub next_reads : RowReadsScope may (n + length seed) next
   pub same_width : length next ≡ length seed
 
--- each expression of the stream is over the n bound words of its scope and those that its form binds, and rows that are joined
--- aren't too wide
-abbrev pub IsStreamOver : InputNames → ℕ → Pipe → Type 0
-IsStreamOver may n (Array k) = IsTrue (may.array k)
-IsStreamOver may n (Range a b) = IsOpening may n a × IsOpening may n b
-IsStreamOver may n (Unfold seed guard item next) = IsUnfoldOver may n seed guard item next
-IsStreamOver may n (Map of body) = IsStreamOver may n of × IsRowOver may (n + stream_width of) body
-IsStreamOver may n (Filter of e) = IsStreamOver may n of × IsOver may (n + stream_width of) e
-IsStreamOver may n (Take of e) = IsStreamOver may n of × IsOpening may n e
-IsStreamOver may n (Drop of e) = IsStreamOver may n of × IsOpening may n e
-IsStreamOver may n (TakeWhile of e) = IsStreamOver may n of × IsOver may (n + stream_width of) e
-IsStreamOver may n (Scan of seed next) = IsStreamOver may n of × IsStateOver may n (stream_width of) seed next
-IsStreamOver may n (FlatMap of inner) = IsStreamOver may n of × IsStreamOver may (n + stream_width of) inner
-IsStreamOver may n (Zip left right) =
-    IsStreamOver may n left × IsStreamOver may n right × (stream_width left + stream_width right ≤ MOST_COMPONENTS)
+-- each expression of the stream reads the n bound words of the stream's scope and those that its form binds, and the rows of a
+-- `zip` aren't too wide
+abbrev pub StreamReadsScope : InputNames → ℕ → Pipe → Type 0
+StreamReadsScope may n (Array k) = IsTrue (may.array k)
+StreamReadsScope may n (Range a b) = IsOpening may n a × IsOpening may n b
+StreamReadsScope may n (Unfold seed guard item next) = UnfoldReadsScope may n seed guard item next
+StreamReadsScope may n (Map of body) = StreamReadsScope may n of × RowReadsScope may (n + stream_width of) body
+StreamReadsScope may n (Filter of e) = StreamReadsScope may n of × ReadsScope may (n + stream_width of) e
+StreamReadsScope may n (Take of e) = StreamReadsScope may n of × IsOpening may n e
+StreamReadsScope may n (Drop of e) = StreamReadsScope may n of × IsOpening may n e
+StreamReadsScope may n (TakeWhile of e) = StreamReadsScope may n of × ReadsScope may (n + stream_width of) e
+StreamReadsScope may n (Scan of seed next) = StreamReadsScope may n of × StateReadsScope may n (stream_width of) seed next
+StreamReadsScope may n (FlatMap of inner) = StreamReadsScope may n of × StreamReadsScope may (n + stream_width of) inner
+StreamReadsScope may n (Zip left right) =
+    StreamReadsScope may n left × StreamReadsScope may n right × (stream_width left + stream_width right ≤ MOST_COMPONENTS)
 
--- the same of a terminal, over rows of this width
-abbrev pub IsFinishOver : InputNames → ℕ → Finish → Type 0
-IsFinishOver may width (Fold seed next) = IsStateOver may 0 width seed next
-IsFinishOver may width Print = Unit {0}
+-- the same of a terminal over rows of this width
+abbrev pub FinishReadsScope : InputNames → ℕ → Finish → Type 0
+FinishReadsScope may width (Fold seed next) = StateReadsScope may 0 width seed next
+FinishReadsScope may width Print = Unit {0}

@@ -24,10 +24,10 @@ ghost use Rattle.list_denotation.specs.Scopes.{is_bound, all_bound};
 ghost use Rattle.list_denotation.specs.Terms.{Term, Pipe, Finish, Pipeline};
 ghost use Rattle.list_denotation.specs.Typing.{is_undivided, all_undivided, stream_kinds, is_typed};
 ghost use Rattle.list_denotation.specs.Values.{Stuck, Got, Is, value, row_value};
-ghost use Rattle.list_denotation.specs.Work.{work};
+ghost use Rattle.list_denotation.specs.Work.{sum_over, work};
 ghost use Rattle.denotation_laws.specs.FarRows.{FarRows, IsCutShort};
 ghost use Rattle.denotation_laws.specs.RowWords.{IsRow, AreRows, IsRowOf};
-ghost use Rattle.denotation_laws.specs.StreamScopes.{IsStreamOver, IsFinishOver};
+ghost use Rattle.denotation_laws.specs.StreamScopes.{StreamReadsScope, FinishReadsScope};
 ghost use Rattle.denotation_laws.specs.Widths.{stream_width};
 
 use list_denotation::typed_expressions_read_the_scope;
@@ -42,7 +42,7 @@ pub fn no_observation_is_stuck()
 {}
 
 /// With one pull more, the rows of a stream and what is seen of a pipeline go at least as far, and
-/// its work isn't less.
+/// its work isn't less; so too with any greater bound.
 pub fn observations_grow()
     ensures rows { (p : Pipe) (env : List ℕ) (inputs : List Input) (n : ℕ)
         → FarRows (denotation p env inputs n) (denotation p env inputs (n + 1)) }
@@ -50,6 +50,12 @@ pub fn observations_grow()
         → Far (observation p inputs n) (observation p inputs (n + 1)) }
     ensures work { (p : Pipeline) (inputs : List Input) (n : ℕ)
         → work p inputs n ≤ work p inputs (n + 1) }
+    ensures rows_later { (p : Pipe) (env : List ℕ) (inputs : List Input) (n m : ℕ)
+        → n ≤ m → FarRows (denotation p env inputs n) (denotation p env inputs m) }
+    ensures far_later { (p : Pipeline) (inputs : List Input) (n m : ℕ)
+        → n ≤ m → Far (observation p inputs n) (observation p inputs m) }
+    ensures work_later { (p : Pipeline) (inputs : List Input) (n m : ℕ)
+        → n ≤ m → work p inputs n ≤ work p inputs m }
 {}
 
 /// `Far` is an order: it is transitive, and two that are as far as one another are the same.
@@ -63,7 +69,7 @@ pub fn far_is_an_order()
 /// `FarRows` is an order, and says of lists of rows what `Far` says of observations: they are the
 /// same, or the first is cut off and its rows are a prefix of the other's.
 pub fn far_rows_is_an_order()
-    ensures said { (o u : Rows) → FarRows o u ↔ ((o ≡ u) ⊎ IsCutShort o u) }
+    ensures cut_short { (o u : Rows) → FarRows o u ↔ ((o ≡ u) ⊎ IsCutShort o u) }
     ensures reflexive { (o : Rows) → FarRows o o }
     ensures transitive { (o u w : Rows) → FarRows o u → FarRows u w → FarRows o w }
     ensures antisymmetric { (o u : Rows) → FarRows o u → FarRows u o → o ≡ u }
@@ -93,6 +99,17 @@ pub fn stages_keep_far_rows()
         → FarRows (zip_rows a c) (zip_rows b d) }
     ensures finishes { (t : Finish) (inputs : List Input) (o u : Rows) → FarRows o u
         → Far (finish_rows t inputs o) (finish_rows t inputs u) }
+{}
+
+/// What is made of the inner lists of a `flatMap` depends on those of its own rows alone: the lists
+/// joined, and the sum of what their openings add.
+pub fn joined_rows_depend_on_inner_lists()
+    ensures joins { (f g : List ℕ → Rows) (rows : Rows)
+        → ((r : List ℕ) → IsRowOf r rows → f r ≡ g r) → join_rows rows f ≡ join_rows rows g }
+    ensures sums { (f g : List ℕ → Rows) (a b : List ℕ → ℕ) (rows : Rows)
+        → ((r : List ℕ) → IsRowOf r rows → f r ≡ g r)
+        → ((r : List ℕ) → IsRowOf r rows → a r ≡ b r)
+        → sum_over rows f a ◌+◌ 0 ≡ sum_over rows g b ◌+◌ 0 }
 {}
 
 // ---- values
@@ -158,16 +175,16 @@ pub fn rows_have_their_width()
 pub fn typed_streams_read_their_scopes()
     ensures streams { (inputs : List InputKind) (scope ks : List Kind) (p : Pipe)
         → stream_kinds inputs scope p ≡ Some ks → IsTrue (pipe_has_words p)
-        → IsStreamOver (declared_inputs inputs) (length scope) p }
+        → StreamReadsScope (declared_inputs inputs) (length scope) p }
     ensures widths { (inputs : List InputKind) (scope ks : List Kind) (p : Pipe)
         → stream_kinds inputs scope p ≡ Some ks → IsTrue (pipe_has_words p)
         → stream_width p ≡ length ks }
     ensures few { (may : InputNames) (n : ℕ) (p : Pipe)
-        → IsStreamOver may n p → stream_width p ≤ MOST_COMPONENTS }
+        → StreamReadsScope may n p → stream_width p ≤ MOST_COMPONENTS }
     ensures programs { (inputs : List InputKind) (s : Stream) (t : Terminal)
         → IsTrue (is_typed inputs s t) → IsTrue (program_has_words s t)
-        → IsStreamOver (declared_inputs inputs) 0 (pipe_of s)
-        × IsFinishOver (declared_inputs inputs) (stream_width (pipe_of s)) (finish_of t) }
+        → StreamReadsScope (declared_inputs inputs) 0 (pipe_of s)
+        × FinishReadsScope (declared_inputs inputs) (stream_width (pipe_of s)) (finish_of t) }
     ensures rows { (kinds : List InputKind) (scope ks : List Kind) (p : Pipe)
         (inputs : List Input) (env : List ℕ) (n : ℕ)
         → stream_kinds kinds scope p ≡ Some ks → IsTrue (pipe_has_words p)

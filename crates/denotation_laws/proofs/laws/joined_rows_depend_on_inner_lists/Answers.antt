@@ -1,0 +1,5 @@
+use Rattle.denotation_laws.proofs.JoinedRows.{join_same, sum_same}
+use Rattle.denotation_laws.proofs.laws.joined_rows_depend_on_inner_lists.Goals as goal
+
+pub returns : goal.returns
+returns c = record { joins = join_same; sums = sum_same }
