@@ -1,0 +1,13 @@
+pub mod CoreTerms
+pub mod CoreCopies
+pub mod WordValues
+pub mod Actions
+pub mod Turns
+pub mod CoreRows
+pub mod CoreWork
+pub mod CoreLeaves
+pub mod CoreShapes
+pub mod MostWords
+pub mod WellFormed
+pub mod StreamCores
+pub mod CorePromise
