@@ -6,3 +6,10 @@ pub mod LongerScopes
 pub mod RunningActs
 pub mod StageRows
 pub mod SourceRows
+pub mod ScopedStreams
+pub mod CoreWidths
+pub mod ExactTurns
+pub mod StreamRows
+pub mod TypedStreams
+pub mod SoundCores
+pub mod WordCounts

@@ -3,17 +3,17 @@ use Rattle.std.proofs.Common.{◌≡◌, ℕ, zero, suc, ◌+◌, ◌^◌, ◌<�
 use Rattle.std.specs.Prelude.{IsTrue, slice_index, if◌then◌else◌}
 use Rattle.strm_num.specs.Words.{difference_of}
 use Rattle.list_denotation.specs.declared.input.Input.{Input}
-use Rattle.list_denotation.specs.Terms.{Term, Truth, Var}
+use Rattle.list_denotation.specs.Terms.{Term, Var}
 use Rattle.list_denotation.specs.Rows.{Rows, Ends, Row, End, unless_broken, map_rows, filter_rows, take_while_rows, take_rows, drop_rows, scan_rows}
 use Rattle.list_denotation.specs.Scopes.{all_bound}
 use Rattle.list_denotation.specs.Typing.{is_undivided}
 use Rattle.list_denotation.specs.Values.{Got, Is, Fails, choice, value, row_value}
-use Rattle.stateful_core.specs.CoreTerms.{Action, Let, KeepIf, StopUnless, Update, When, Actions, Nil, Cons}
+use Rattle.stateful_core.specs.CoreTerms.{Action, Let, KeepIf, StopUnless, Nil, Cons}
 use Rattle.stateful_core.specs.WordValues.{or_zero, word_value, word_values}
 use Rattle.stateful_core.specs.Actions.{ActResult, Continue, Skip, Halt, then_run, let_word, run_act, run_acts}
 use Rattle.stateful_core.specs.Turns.{after_turn, stage_rows}
 use Rattle.stateful_core.specs.CoreRows.{turn_end, core_turn, guard_value}
-use Rattle.stateful_core.specs.StreamCores.{variables, let_all, set_state, next_state, test_acts, always, one_less}
+use Rattle.stateful_core.specs.StreamCores.{variables, let_all, set_state, next_state, test_acts, always, one_less, drop_acts}
 use Rattle.stateful_core.proofs.LongerScopes.{length_row_value, word_behind, variables_at}
 use Rattle.stateful_core.proofs.RunningActs.{with_row, run_lets, state_turn}
 use Rattle.stateful_core.proofs.UndividedValues.{HasValue, undivided_value}
@@ -120,10 +120,7 @@ module _ (env : List ℕ) (inputs : List Input) (w : ℕ) where
   take_stage (suc k) b (Row r x) h =
       rw (count_left (suc k) [], one_fewer k r b, row_kept k r h.0) (ap (Row r) (take_stage k (omega arith) x h.1))
 
-  abbrev pub drop_acts : Actions
-  drop_acts = Cons (When (Var (length env)) (Cons (Update 0 (one_less (length env) ∷ [])) (Cons (KeepIf (Truth false)) Nil)) Nil) Nil
-
-  pub drop_stage : (k : ℕ) → k < 2 ^ 64 → (x : Rows) → AreWide w x → stage_rows (guard_value always env inputs) (core_turn drop_acts (variables (length env + 1) w) env inputs) (k ∷ []) x ≡ drop_rows k x
+  pub drop_stage : (k : ℕ) → k < 2 ^ 64 → (x : Rows) → AreWide w x → stage_rows (guard_value always env inputs) (core_turn (drop_acts (length env)) (variables (length env + 1) w) env inputs) (k ∷ []) x ≡ drop_rows k x
   drop_stage zero b (Ends e) h = refl
   drop_stage zero b (Row r x) h = rw (count_left 0 r, row_kept 0 r h.0) (ap (Row r) (drop_stage zero b x h.1))
   drop_stage (suc k) b (Ends e) h = refl

@@ -11,3 +11,4 @@ pub mod MostWords
 pub mod WellFormed
 pub mod StreamCores
 pub mod CorePromise
+pub mod Laws

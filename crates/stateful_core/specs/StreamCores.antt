@@ -74,11 +74,13 @@ test_core test e w of body = Tr e of [] always (test_acts test (e + w) body) (va
 abbrev pub take_core : ℕ → ℕ → CoreTerm → Term → CoreTerm
 take_core e w of count = Tr e of (rows_asked count ∷ []) (Var e) (set_state (one_less e ∷ [])) (variables (e + 1) w)
 
+-- while word e, the state, isn't 0, it goes down, and there is no row
+abbrev pub drop_acts : ℕ → Actions
+drop_acts e = Cons (When (Var e) (Cons (Update 0 (one_less e ∷ [])) (Cons (KeepIf (Truth false)) Nil)) Nil) Nil
+
 -- the state is how many rows are still passed over
 abbrev pub drop_core : ℕ → ℕ → CoreTerm → Term → CoreTerm
-drop_core e w of count =
-    Tr e of (rows_asked count ∷ []) always
-    (Cons (When (Var e) (Cons (Update 0 (one_less e ∷ [])) (Cons (KeepIf (Truth false)) Nil)) Nil) Nil) (variables (e + 1) w)
+drop_core e w of count = Tr e of (rows_asked count ∷ []) always (drop_acts e) (variables (e + 1) w)
 
 abbrev pub scan_core : ℕ → ℕ → CoreTerm → List Term → List Term → CoreTerm
 scan_core e w of seed next = Tr e of seed always (next_state (e + length seed + w) next) (variables e (length seed))
