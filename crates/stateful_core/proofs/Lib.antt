@@ -13,3 +13,4 @@ pub mod StreamRows
 pub mod TypedStreams
 pub mod SoundCores
 pub mod WordCounts
+pub mod CoreKept

@@ -11,7 +11,7 @@ use Rattle.list_denotation.specs.Typing.{is_undivided, all_undivided}
 use Rattle.list_denotation.specs.Leaves.{all_leaves}
 use Rattle.stateful_core.specs.CoreTerms.{Action, Let, KeepIf, StopUnless, Actions, Nil, Cons}
 use Rattle.stateful_core.specs.MostWords.{kept_aside, most_temps, row_temps, action_temps, actions_temps, core_temps, is_other_leaf, is_written_straight, action_words, actions_words, added_words}
-use Rattle.stateful_core.specs.StreamCores.{variables, let_all, set_state, next_state, test_acts, one_more, one_less, stream_width, core_at}
+use Rattle.stateful_core.specs.StreamCores.{variables, let_all, set_state, next_state, test_acts, one_more, one_less, stream_width, core_at, is_chain}
 use Rattle.stateful_core.proofs.CoreWidths.{width_at}
 use Rattle.stateful_core.proofs.LongerScopes.{length_variables}
 use Rattle.stateful_core.proofs.ScopedStreams.{IsScoped}
@@ -63,15 +63,112 @@ module _ (e : ℕ) where
       by_form true = omega (arith, is f)
       by_form false = omega (arith, is (Var k))
 
-pub narrow : (p : Pipe) (e : ℕ) → IsScoped e p → stream_width p ≤ 8 * stream_ops p
-narrow (stream.Array k) e s = omega arith
-narrow (stream.Range a b) e s = omega arith
-narrow (stream.Unfold seed guard item next) e s = omega (arith, s.1.1.few)
-narrow (stream.Map of body) e s = omega (arith, s.1.few)
-narrow (stream.Filter of body) e s = omega (arith, narrow of e s.0)
-narrow (stream.Take of count) e s = omega (arith, narrow of e s.0)
-narrow (stream.Drop of count) e s = omega (arith, narrow of e s.0)
-narrow (stream.TakeWhile of body) e s = omega (arith, narrow of e s.0)
-narrow (stream.Scan of seed next) e s = omega (arith, s.1.same, s.1.follows.few)
-narrow (stream.FlatMap of inner) e s = omega (arith, narrow inner (e + stream_width of) s.1)
-narrow (stream.Zip left right) e s = omega (arith, narrow left e s.0, narrow right e s.1)
+-- the rows of a chain have at most 8 words
+narrow : (p : Pipe) (e : ℕ) → IsTrue (is_chain p) → IsScoped e p → stream_width p ≤ 8
+narrow (stream.Array k) e c s = omega arith
+narrow (stream.Range a b) e c s = omega arith
+narrow (stream.Unfold seed guard item next) e c s = s.1.1.few
+narrow (stream.Map of body) e c s = s.1.few
+narrow (stream.Filter of body) e c s = narrow of e c s.0
+narrow (stream.Take of count) e c s = narrow of e c s.0
+narrow (stream.Drop of count) e c s = narrow of e c s.0
+narrow (stream.TakeWhile of body) e c s = narrow of e c s.0
+narrow (stream.Scan of seed next) e c s = omega (arith, s.1.same, s.1.follows.few)
+narrow (stream.FlatMap of inner) e c s = absurd cc
+narrow (stream.Zip left right) e c s = absurd cc
+
+pub words_at : (p : Pipe) (e : ℕ) → IsTrue (is_chain p) → IsScoped e p → added_words (core_at e p) ≤ 32 * stream_ops p
+words_at (stream.Array k) e c s = omega (arith, words_set e (one_more e ∷ []))
+words_at (stream.Range a b) e c s = omega (arith, words_set e (one_more e ∷ []))
+words_at (stream.Unfold seed guard item next) e c s =
+    let k = e + length seed + length item in
+    omega (arith, words_lets e item (next_state k next), words_state e k next (omega (arith, s.0.same)), length_variables (e + length seed) (length item), s.0.same, s.0.follows.few, s.1.1.few)
+words_at (stream.Map of body) e c s =
+    omega (arith, words_at of e c s.0, words_lets e body Nil, length_variables (e + stream_width of) (length body), s.1.few)
+words_at (stream.Filter of body) e c s =
+    omega (arith, words_at of e c s.0, words_test e KeepIf (λ f. refl) (e + stream_width of) body, length_variables e (stream_width of), narrow of e c s.0)
+words_at (stream.Take of count) e c s =
+    omega (arith, words_at of e c s.0, words_set e (one_less e ∷ []), length_variables (e + 1) (stream_width of), narrow of e c s.0)
+words_at (stream.Drop of count) e c s =
+    omega (arith, words_at of e c s.0, unless_straight (is_written_straight (e + 0) (one_less e ∷ [])) 1, length_variables (e + 1) (stream_width of), narrow of e c s.0)
+words_at (stream.TakeWhile of body) e c s =
+    omega (arith, words_at of e c s.0, words_test e StopUnless (λ f. refl) (e + stream_width of) body, length_variables e (stream_width of), narrow of e c s.0)
+words_at (stream.Scan of seed next) e c s =
+    let k = e + length seed + stream_width of in
+    omega (arith, words_at of e c s.0, words_state e k next (omega (arith, s.1.same)), length_variables e (length seed), s.1.same, s.1.follows.few)
+words_at (stream.FlatMap of inner) e c s = absurd cc
+words_at (stream.Zip left right) e c s = absurd cc
+
+-- ---- temporaries
+
+aside_few : (e : Term) (n d : ℕ) → n + 1 ≤ d → kept_aside e n ≤ d
+aside_few (Lit w) n d h = omega arith
+aside_few (Truth b) n d h = omega arith
+aside_few (Var k) n d h = omega arith
+aside_few (Param k) n d h = omega arith
+aside_few (Len k) n d h = omega arith
+aside_few (Neg a) n d h = h
+aside_few (Not a) n d h = h
+aside_few (Bin op a b) n d h = h
+aside_few (And a b) n d h = h
+aside_few (Or a b) n d h = h
+aside_few (If c a b) n d h = h
+
+pub temps_below : (e : Term) → most_temps e + 1 ≤ term_depth e
+temps_below (Lit w) = omega arith
+temps_below (Truth b) = omega arith
+temps_below (Var k) = omega arith
+temps_below (Param k) = omega arith
+temps_below (Len k) = omega arith
+temps_below (Neg a) = omega (arith, temps_below a)
+temps_below (Not a) = omega (arith, temps_below a)
+temps_below (Bin op a b) = omega (arith, temps_below a, aside_few b (most_temps b) (term_depth b) (temps_below b))
+temps_below (And a b) = omega (arith, temps_below a, temps_below b)
+temps_below (Or a b) = omega (arith, temps_below a, temps_below b)
+temps_below (If c a b) = omega (arith, temps_below c, temps_below a, temps_below b)
+
+row_temps_below : (es : List Term) → row_temps es ≤ row_depth es
+row_temps_below [] = omega arith
+row_temps_below (e ∷ es) = omega (arith, temps_below e, row_temps_below es)
+
+no_temps : (k n : ℕ) → row_temps (variables k n) ≡ 0
+no_temps k zero = refl
+no_temps k (suc n) = omega (arith, no_temps (suc k) n)
+
+temps_lets : (es : List Term) (more : Actions) → actions_temps (let_all es more) ≤ max (row_temps es) (actions_temps more)
+temps_lets [] more = omega arith
+temps_lets (t ∷ es) more = omega (arith, temps_lets es more)
+
+temps_state : (k : ℕ) (es : List Term) → actions_temps (next_state k es) ≤ row_temps es
+temps_state k es = by_form (all_undivided es)
+  where
+    by_form : (t : Bool) → actions_temps (if t then set_state es else let_all es (set_state (variables k (length es)))) ≤ row_temps es
+    by_form true = omega arith
+    by_form false = omega (arith, temps_lets es (set_state (variables k (length es))), no_temps k (length es))
+
+temps_test : (act : Term → Action) → ((f : Term) → action_temps (act f) ≡ most_temps f) → (k : ℕ) (f : Term) → actions_temps (test_acts act k f) ≤ most_temps f
+temps_test act is k f = by_form (is_undivided f)
+  where
+    by_form : (t : Bool) → actions_temps (if t then Cons (act f) Nil else Cons (Let f) (Cons (act (Var k)) Nil)) ≤ most_temps f
+    by_form true = omega (arith, is f)
+    by_form false = omega (arith, is (Var k))
+
+pub temps_at : (p : Pipe) (e : ℕ) → core_temps (core_at e p) ≤ stream_depth p
+temps_at (stream.Array k) e = omega arith
+temps_at (stream.Range a b) e = omega (arith, temps_below a, temps_below b, aside_few a (most_temps a) (term_depth a) (temps_below a), aside_few b (most_temps b) (term_depth b) (temps_below b))
+temps_at (stream.Unfold seed guard item next) e =
+    let k = e + length seed + length item in
+    omega (arith, row_temps_below seed, temps_below guard, row_temps_below item, row_temps_below next, temps_lets item (next_state k next), temps_state k next, no_temps (e + length seed) (length item))
+temps_at (stream.Map of body) e =
+    omega (arith, temps_at of e, row_temps_below body, temps_lets body Nil, no_temps (e + stream_width of) (length body))
+temps_at (stream.Filter of body) e =
+    omega (arith, temps_at of e, temps_below body, temps_test KeepIf (λ f. refl) (e + stream_width of) body, no_temps e (stream_width of))
+temps_at (stream.Take of count) e = omega (arith, temps_at of e, temps_below count, no_temps (e + 1) (stream_width of))
+temps_at (stream.Drop of count) e = omega (arith, temps_at of e, temps_below count, no_temps (e + 1) (stream_width of))
+temps_at (stream.TakeWhile of body) e =
+    omega (arith, temps_at of e, temps_below body, temps_test StopUnless (λ f. refl) (e + stream_width of) body, no_temps e (stream_width of))
+temps_at (stream.Scan of seed next) e =
+    let k = e + length seed + stream_width of in
+    omega (arith, temps_at of e, row_temps_below seed, row_temps_below next, temps_state k next, no_temps e (length seed))
+temps_at (stream.FlatMap of inner) e = omega (arith, temps_at of e, temps_at inner (e + stream_width of))
+temps_at (stream.Zip left right) e = omega (arith, temps_at left e, temps_at right e)
