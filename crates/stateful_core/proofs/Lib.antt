@@ -14,3 +14,4 @@ pub mod TypedStreams
 pub mod SoundCores
 pub mod WordCounts
 pub mod CoreKept
+pub mod CopiedRows

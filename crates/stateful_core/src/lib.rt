@@ -7,5 +7,6 @@
 #![tactic(auto)]
 
 mod core_term;
+mod expressions;
 
 pub use core_term::{Act, Acts, Core};
