@@ -23,7 +23,7 @@ use Rattle.stateful_core.specs.StreamCores.{stream_width, core_at, is_chain}
 use Rattle.stateful_core.specs.WellFormed.{is_sound_core}
 use Rattle.stateful_core.proofs.CoreWidths.{scope_at, width_at, zips_at}
 use Rattle.stateful_core.proofs.InputSizes.{small_inputs}
-use Rattle.stateful_core.proofs.ScopedStreams.{pipe_leaves}
+use Rattle.stateful_core.specs.ScopedStreams.{pipe_leaves}
 use Rattle.stateful_core.proofs.SoundCores.{sound_at, leaves_at}
 use Rattle.stateful_core.proofs.StreamRows.{rows_at, work_at}
 use Rattle.stateful_core.proofs.TypedStreams.{FromKinds, from_kinds}

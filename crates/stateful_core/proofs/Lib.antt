@@ -6,7 +6,6 @@ pub mod LongerScopes
 pub mod RunningActs
 pub mod StageRows
 pub mod SourceRows
-pub mod ScopedStreams
 pub mod CoreWidths
 pub mod ExactTurns
 pub mod StreamRows
@@ -15,3 +14,4 @@ pub mod SoundCores
 pub mod WordCounts
 pub mod CoreKept
 pub mod CopiedRows
+pub mod AppendedActs

@@ -15,7 +15,7 @@ use Rattle.stateful_core.specs.StreamCores.{variables, let_all, set_state, next_
 use Rattle.stateful_core.specs.WellFormed.{is_sure, all_sure, is_sound_action, are_sound_actions, are_sound_parts, is_sound_core}
 use Rattle.stateful_core.proofs.CoreWidths.{scope_at, width_at}
 use Rattle.stateful_core.proofs.LongerScopes.{bound_within, row_within, length_variables}
-use Rattle.stateful_core.proofs.ScopedStreams.{IsRowOver, IsState, IsScoped, pipe_leaves}
+use Rattle.stateful_core.specs.ScopedStreams.{IsRowOver, IsState, IsScoped, pipe_leaves}
 
 -- ---- sound parts
 

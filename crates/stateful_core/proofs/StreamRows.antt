@@ -21,7 +21,7 @@ use Rattle.stateful_core.specs.StreamCores.{let_all, next_state, rows_asked, str
 use Rattle.stateful_core.proofs.CoreWidths.{width_at, wide_rows}
 use Rattle.stateful_core.proofs.ExactTurns.{exact_count, exact_lets, exact_state}
 use Rattle.stateful_core.proofs.LongerScopes.{length_word_values}
-use Rattle.stateful_core.proofs.ScopedStreams.{IsScoped}
+use Rattle.stateful_core.specs.ScopedStreams.{IsScoped}
 use Rattle.stateful_core.proofs.SignedCounts.{count_is, count_small, not_both_less, none_between}
 use Rattle.stateful_core.proofs.SourceRows.{array_turns, range_turns, unfold_turns}
 use Rattle.stateful_core.proofs.StageRows.{AreWide, map_stage, filter_stage, while_stage, take_stage, drop_stage, scan_stage}

@@ -14,7 +14,7 @@ use Rattle.stateful_core.specs.CoreLeaves.{row_leaves}
 use Rattle.stateful_core.specs.Laws.{Laws}
 use Rattle.stateful_core.specs.StreamCores.{stream_width, is_chain}
 use Rattle.stateful_core.specs.WellFormed.{is_sure, all_sure}
-use Rattle.stateful_core.proofs.ScopedStreams.{IsRowOver, IsState, IsScoped, pipe_leaves}
+use Rattle.stateful_core.specs.ScopedStreams.{IsRowOver, IsState, IsScoped, pipe_leaves}
 
 -- ---- what stands under a condition
 

@@ -14,7 +14,7 @@ use Rattle.stateful_core.specs.MostWords.{kept_aside, most_temps, row_temps, act
 use Rattle.stateful_core.specs.StreamCores.{variables, let_all, set_state, next_state, test_acts, one_more, one_less, stream_width, core_at, is_chain}
 use Rattle.stateful_core.proofs.CoreWidths.{width_at}
 use Rattle.stateful_core.proofs.LongerScopes.{length_variables}
-use Rattle.stateful_core.proofs.ScopedStreams.{IsScoped}
+use Rattle.stateful_core.specs.ScopedStreams.{IsScoped}
 
 -- ---- words
 

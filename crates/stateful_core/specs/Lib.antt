@@ -12,3 +12,5 @@ pub mod WellFormed
 pub mod StreamCores
 pub mod CorePromise
 pub mod Laws
+pub mod ScopedStreams
+pub mod RowTests

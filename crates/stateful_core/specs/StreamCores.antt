@@ -52,10 +52,14 @@ rows_asked count = If (Bin Lt count (Lit 0)) (Lit 0) count
 abbrev pub array_core : ℕ → ℕ → CoreTerm
 array_core e k = Lin e (Lit 0 ∷ []) (Bin Ne (Var e) (Len k)) (Cons (Read k (Var e)) (set_state (one_more e ∷ []))) (Var (e + 1) ∷ [])
 
--- the state is the next number. It begins at the end where there is none, so that it comes to the end by steps of one
+-- a range begins at its end where it has no number, so that it comes to its end by steps of one
+abbrev pub range_start : Term → Term → Term
+range_start low high = If (Bin Lt high low) high low
+
+-- the state is the next number
 abbrev pub range_core : ℕ → Term → Term → CoreTerm
 range_core e low high =
-    Lin e (If (Bin Lt high low) high low ∷ []) (Bin Ne (Var e) high) (Cons (Let (Var e)) (set_state (one_more e ∷ []))) (Var (e + 1) ∷ [])
+    Lin e (range_start low high ∷ []) (Bin Ne (Var e) high) (Cons (Let (Var e)) (set_state (one_more e ∷ []))) (Var (e + 1) ∷ [])
 
 abbrev pub unfold_core : ℕ → List Term → Term → List Term → List Term → CoreTerm
 unfold_core e seed guard item next =

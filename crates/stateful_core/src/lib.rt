@@ -6,7 +6,9 @@
 //! stream's rows and its work, is a definition there too.
 #![tactic(auto)]
 
+mod acts;
 mod core_term;
 mod expressions;
+mod stream_core;
 
 pub use core_term::{Act, Acts, Core};
