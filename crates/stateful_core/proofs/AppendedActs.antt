@@ -1,17 +1,18 @@
 -- Acts that the code appends one by one.
-use Rattle.std.proofs.Common.{rules, ◌≡◌, ℕ, suc, ◌+◌, ◌≤◌, List, [], ◌∷◌, ◌++◌, length, drop, Some, Bool, true, false, refl, sym, ap, ◌∙◌}
+use Rattle.std.proofs.Common.{rules, ◌≡◌, ℕ, suc, ◌+◌, ◌≤◌, List, [], ◌∷◌, ◌++◌, length, drop, Some, Bool, true, false, refl, sym, ap, ◌∙◌, arith}
 use Rattle.std.specs.Prelude.{slice_get}
 use Rattle.std.proofs.lemmas.List.{drop_all}
 use Rattle.strm_num.proofs.Lists.{drop_at}
 use Rattle.list_denotation.specs.declared.expr.Expr.{Expr}
+use Rattle.list_denotation.specs.declared.expr.Expr.TheVariants as expr
 use Rattle.list_denotation.specs.Copies.{term_of, terms_of}
 use Rattle.list_denotation.specs.Terms.{Term, Var}
 use Rattle.list_denotation.specs.Typing.{all_undivided, is_undivided}
 use Rattle.stateful_core.specs.declared.core_term.Act.{Act, the_lemmas}
 use Rattle.stateful_core.specs.declared.core_term.Act.TheVariants as act
-use Rattle.stateful_core.specs.CoreTerms.{Action, Let, Update, Actions, Nil, Cons, join}
+use Rattle.stateful_core.specs.CoreTerms.{Action, Let, Update, KeepIf, When, Actions, Nil, Cons, join}
 use Rattle.stateful_core.specs.CoreCopies.{action_of, actions_of}
-use Rattle.stateful_core.specs.StreamCores.{variables, let_all, set_state, next_state, test_acts}
+use Rattle.stateful_core.specs.StreamCores.{variables, let_all, set_state, next_state, test_acts, one_less, drop_acts}
 
 join_join : (a b c : Actions) → join (join a b) c ≡ join a (join b c)
 join_join Nil b c = refl
@@ -51,11 +52,11 @@ set_push acts es = act_push acts (act.Update 0 es) ∙ ap (λ a. join (actions_o
 
 pub ruleset set_steps = (set_push)
 
-terms_length : (es : List Expr) → length (terms_of es) ≡ length es
+pub terms_length : (es : List Expr) → length (terms_of es) ≡ length es
 terms_length [] = refl
 terms_length (e ∷ es) = ap suc (terms_length es)
 
-lets_join : (es : List Term) (more : Actions) → join (let_all es Nil) more ≡ let_all es more
+pub lets_join : (es : List Term) (more : Actions) → join (let_all es Nil) more ≡ let_all es more
 lets_join [] more = refl
 lets_join (e ∷ es) more = ap (λ z. Cons (Let e) z) (lets_join es more)
 
@@ -76,4 +77,26 @@ test_at_once test k e a u h = ap (λ z. Cons z Nil) h ∙ rw u refl
 pub test_from_local : (test : Term → Action) (k : ℕ) (e : Expr) (c : Expr) (a : Act) (v : Term) → is_undivided (term_of e) ≡ false → term_of c ≡ term_of e → action_of a ≡ test v → v ≡ Var k → actions_of (([] ++ act.Let c ∷ []) ++ a ∷ []) ≡ test_acts test k (term_of e)
 test_from_local test k e c a v u q h w = ap (λ z. Cons z (Cons (action_of a) Nil)) (let_copy c ∙ ap Let q) ∙ ap (λ z. Cons (Let (term_of e)) (Cons z Nil)) (h ∙ ap test w) ∙ rw u refl
 
+-- the number of a row's expressions, as the code counts them
+pub length_terms : (es : List Expr) (n : ℕ) → length (terms_of es) ≤ n → length es ≤ n
+length_terms es n h = omega (arith, terms_length es)
+
+pub ruleset row_steps = (length_terms, lets_join)
+
 pub ruleset test_steps = (test_at_once, test_from_local)
+
+-- ---- the acts of drop
+
+when_copy : (e : Expr) (a b : List Act) → action_of (act.When e a b) ≡ When (term_of e) (actions_of a) (actions_of b)
+when_copy e a b = search (rules, the_lemmas)
+
+keep_copy : (e : Expr) → action_of (act.KeepIf e) ≡ KeepIf (term_of e)
+keep_copy e = search (rules, the_lemmas)
+
+pub drop_made : (first : List Act) (k : ℕ) (es : List Expr) → actions_of first ≡ set_state (terms_of es) → terms_of es ≡ one_less k ∷ [] → actions_of ([] ++ act.When (expr.Var k) (first ++ act.KeepIf (expr.Truth false) ∷ []) [] ∷ []) ≡ drop_acts k
+drop_made first k es h q =
+    ap (λ z. Cons z Nil)
+    (when_copy (expr.Var k) (first ++ act.KeepIf (expr.Truth false) ∷ []) []
+    ∙ ap (λ z. When (Var k) z Nil)
+    (act_push first (act.KeepIf (expr.Truth false)) ∙ ap (λ z. join z (Cons (action_of (act.KeepIf (expr.Truth false))) Nil)) (h ∙ ap set_state q)
+    ∙ ap (λ z. Cons (Update 0 (one_less k ∷ [])) (Cons z Nil)) (keep_copy (expr.Truth false))))

@@ -23,7 +23,7 @@ use Rattle.stateful_core.specs.StreamCores.{stream_width, core_at, is_chain}
 use Rattle.stateful_core.specs.WellFormed.{is_sound_core}
 use Rattle.stateful_core.proofs.CoreWidths.{scope_at, width_at, zips_at}
 use Rattle.stateful_core.proofs.InputSizes.{small_inputs}
-use Rattle.stateful_core.specs.ScopedStreams.{pipe_leaves}
+use Rattle.stateful_core.specs.ScopedStreams.{IsScoped, pipe_leaves}
 use Rattle.stateful_core.proofs.SoundCores.{sound_at, leaves_at}
 use Rattle.stateful_core.proofs.StreamRows.{rows_at, work_at}
 use Rattle.stateful_core.proofs.TypedStreams.{FromKinds, from_kinds}
@@ -62,6 +62,10 @@ module _ (laws : Laws) (p : Program) (typed : IsTrue (is_typed p.inputs p.stream
 
   few_words : (d : ℕ) (row : List Kind) → stream_kinds p.inputs [] s ≡ Some row → most_words c d ≤ 32 * stream_ops s + 6 * max d (stream_depth s) + 40
   few_words d row q = omega (arith, words_at s 0 chain (facts row q).scoped, temps_at s 0, scope_at s 0)
+
+  pub core_scoped : IsScoped 0 s
+  core_scoped =
+      let some = some_kinds (stream_kinds p.inputs [] s) (laws.kinds p.inputs p.stream p.terminal typed) in (facts some.0 some.1).scoped
 
   pub core_kept : IsCoreOf (pipeline_of p) c
   core_kept =

@@ -61,7 +61,7 @@ module _ (env : List ℕ) (inputs : List Input) where
     from_locals (Is row) len =
         let n = len row refl in
         let v : word_values (variables k (length es)) (env ++ (s ++ (l ++ row))) inputs ≡ row =
-            variables_at inputs (env ++ (s ++ l)) row [] (env ++ (s ++ (l ++ row))) k (length es) at n (let q : env ++ (s ++ (l ++ row)) ≡ (env ++ (s ++ l)) ++ (row ++ []) = simp (append_assoc, append-nil) in q) in
+        variables_at inputs (env ++ (s ++ l)) row [] (env ++ (s ++ (l ++ row))) k (length es) at n (let q : env ++ (s ++ (l ++ row)) ≡ (env ++ (s ++ l)) ++ (row ++ []) = simp (append_assoc, append-nil) in q) in
         rw (v, overwrite_all row s (n ∙ same)) (ap (λ z. Row z (go row)) (is_out row row n))
     from_locals (Fails x) len = refl
 

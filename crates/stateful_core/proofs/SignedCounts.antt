@@ -50,6 +50,7 @@ signed_next x b h = by_case (nat_lt x (2 ^ 63 - 1)) refl
             let m = ltb-false x (2 ^ 64 - 1) e in
             let z : x ≡ 2 ^ 64 - 1 = omega arith in
             rw z refl
+
     by_case : (t : Bool) → nat_lt x (2 ^ 63 - 1) ≡ t → signed (sum_of x 1) ≡ signed x +ℤ pos 1
     by_case true e =
         let l = ltb-true x (2 ^ 63 - 1) e in
@@ -99,7 +100,7 @@ below_end x end b c e =
     record {
       differs = λ q. let s : signed x ≡ signed end = ap signed q in omega (arith, ints);
       next = not_less (signed end) (signed (sum_of x 1)) (omega (arith, ints, n));
-      count = count_less (signed x) (signed end) (signed (sum_of x 1)) l n
+      count = count_less (signed x) (signed end) (signed (sum_of x 1)) l n;
     }
 
 pub at_end : (x end : ℕ) → x < 2 ^ 64 → end < 2 ^ 64 → is_less end x ≡ false → is_less x end ≡ false → x ≡ end

@@ -66,6 +66,7 @@ module _ (m : ℕ) where
     where
       single : (n : ℕ) (f : Term) → IsTrue (is_sure n f) → IsTrue (are_sound_actions m n (Cons (test f) Nil))
       single n f h = true_both (is_sound_action m n (test f)) true (is n f ∙ h) refl
+
       by_form : (t : Bool) → is_undivided e ≡ t → IsTrue (are_sound_actions m k (if t then Cons (test e) Nil else Cons (Let e) (Cons (test (Var k)) Nil)))
       by_form true q = single k e (true_both (is_bound k e) (is_undivided e) b q)
       by_form false q =
@@ -113,58 +114,58 @@ sound_at (stream.Unfold seed guard item next) e s =
     let at : e + length seed + 0 ≡ e + length seed = omega arith in
     sound_parts e 0 seed guard acts (variables (e + length seed) (length item)) s.0.opens s.1.0
     (subst (λ n. IsTrue (are_sound_actions m n acts)) (sym at)
-      (sound_lets m item (next_state k next) (e + length seed) s.1.1.bound
-        (sound_state m k next (omega (arith, s.0.same)) (row_within (e + length seed) k (omega arith) next s.0.follows.bound))))
+    (sound_lets m item (next_state k next) (e + length seed) s.1.1.bound
+    (sound_state m k next (omega (arith, s.0.same)) (row_within (e + length seed) k (omega arith) next s.0.follows.bound))))
     (sure_variables (e + length seed + 0 + actions_locals acts) (e + length seed) (length item) (omega (arith, locals_lets item (next_state k next))))
 sound_at (stream.Map of body) e s =
     let w = stream_width of in
     let at : e + 0 + w ≡ e + w = omega arith in
     sound_stage of e (sound_at of e s.0) [] always (let_all body Nil) (variables (e + w) (length body))
     (sound_parts e w [] always (let_all body Nil) (variables (e + w) (length body)) refl refl
-      (subst (λ n. IsTrue (are_sound_actions 0 n (let_all body Nil))) (sym at) (sound_lets 0 body Nil (e + w) s.1.bound refl))
-      (sure_variables (e + 0 + w + actions_locals (let_all body Nil)) (e + w) (length body) (omega (arith, locals_lets body Nil))))
+    (subst (λ n. IsTrue (are_sound_actions 0 n (let_all body Nil))) (sym at) (sound_lets 0 body Nil (e + w) s.1.bound refl))
+    (sure_variables (e + 0 + w + actions_locals (let_all body Nil)) (e + w) (length body) (omega (arith, locals_lets body Nil))))
 sound_at (stream.Filter of body) e s =
     let w = stream_width of in
     let at : e + 0 + w ≡ e + w = omega arith in
     sound_stage of e (sound_at of e s.0) [] always (test_acts KeepIf (e + w) body) (variables e w)
     (sound_parts e w [] always (test_acts KeepIf (e + w) body) (variables e w) refl refl
-      (subst (λ n. IsTrue (are_sound_actions 0 n (test_acts KeepIf (e + w) body))) (sym at) (sound_test 0 KeepIf (λ n f. refl) (e + w) body s.1))
-      (sure_variables (e + 0 + w + actions_locals (test_acts KeepIf (e + w) body)) e w (omega arith)))
+    (subst (λ n. IsTrue (are_sound_actions 0 n (test_acts KeepIf (e + w) body))) (sym at) (sound_test 0 KeepIf (λ n f. refl) (e + w) body s.1))
+    (sure_variables (e + 0 + w + actions_locals (test_acts KeepIf (e + w) body)) e w (omega arith)))
 sound_at (stream.Take of count) e s =
     let w = stream_width of in
     let c = lt-ltb e (e + 1 + w) (omega arith) in
     sound_stage of e (sound_at of e s.0) (rows_asked count ∷ []) (Var e) (set_state (one_less e ∷ [])) (variables (e + 1) w)
     (sound_parts e w (rows_asked count ∷ []) (Var e) (set_state (one_less e ∷ [])) (variables (e + 1) w) (sure_asked e count s.1) (sure_here (e + 1) e (omega arith))
-      (rw c refl) (sure_variables (e + 1 + w + 0) (e + 1) w (omega arith)))
+    (rw c refl) (sure_variables (e + 1 + w + 0) (e + 1) w (omega arith)))
 sound_at (stream.Drop of count) e s =
     let w = stream_width of in
     let c = lt-ltb e (e + 1 + w) (omega arith) in
     sound_stage of e (sound_at of e s.0) (rows_asked count ∷ []) always (drop_acts e) (variables (e + 1) w)
     (sound_parts e w (rows_asked count ∷ []) always (drop_acts e) (variables (e + 1) w) (sure_asked e count s.1) refl
-      (rw c refl) (sure_variables (e + 1 + w + 0) (e + 1) w (omega arith)))
+    (rw c refl) (sure_variables (e + 1 + w + 0) (e + 1) w (omega arith)))
 sound_at (stream.TakeWhile of body) e s =
     let w = stream_width of in
     let at : e + 0 + w ≡ e + w = omega arith in
     sound_stage of e (sound_at of e s.0) [] always (test_acts StopUnless (e + w) body) (variables e w)
     (sound_parts e w [] always (test_acts StopUnless (e + w) body) (variables e w) refl refl
-      (subst (λ n. IsTrue (are_sound_actions 0 n (test_acts StopUnless (e + w) body))) (sym at) (sound_test 0 StopUnless (λ n f. refl) (e + w) body s.1))
-      (sure_variables (e + 0 + w + actions_locals (test_acts StopUnless (e + w) body)) e w (omega arith)))
+    (subst (λ n. IsTrue (are_sound_actions 0 n (test_acts StopUnless (e + w) body))) (sym at) (sound_test 0 StopUnless (λ n f. refl) (e + w) body s.1))
+    (sure_variables (e + 0 + w + actions_locals (test_acts StopUnless (e + w) body)) e w (omega arith)))
 sound_at (stream.Scan of seed next) e s =
     let w = stream_width of in
     let k = e + length seed + w in
     sound_stage of e (sound_at of e s.0) seed always (next_state k next) (variables e (length seed))
     (sound_parts e w seed always (next_state k next) (variables e (length seed)) s.1.opens refl
-      (sound_state (length seed) k next (omega (arith, s.1.same)) s.1.follows.bound)
-      (sure_variables (k + actions_locals (next_state k next)) e (length seed) (omega arith)))
+    (sound_state (length seed) k next (omega (arith, s.1.same)) s.1.follows.bound)
+    (sure_variables (k + actions_locals (next_state k next)) e (length seed) (omega arith)))
 sound_at (stream.FlatMap of inner) e s =
     let w = stream_width of in
     true_both (is_sound_core (core_at e of)) _ (sound_at of e s.0)
     (true_both (is_sound_core (core_at (e + w) inner)) (core_scope (core_at (e + w) inner) == core_scope (core_at e of) + core_width (core_at e of)) (sound_at inner (e + w) s.1)
-      (eq-eqb (core_scope (core_at (e + w) inner)) (core_scope (core_at e of) + core_width (core_at e of)) (omega (arith, scope_at inner (e + w), scope_at of e, width_at of e))))
+    (eq-eqb (core_scope (core_at (e + w) inner)) (core_scope (core_at e of) + core_width (core_at e of)) (omega (arith, scope_at inner (e + w), scope_at of e, width_at of e))))
 sound_at (stream.Zip left right) e s =
     true_both (is_sound_core (core_at e left)) _ (sound_at left e s.0)
     (true_both (is_sound_core (core_at e right)) (core_scope (core_at e right) == core_scope (core_at e left)) (sound_at right e s.1)
-      (eq-eqb (core_scope (core_at e right)) (core_scope (core_at e left)) (scope_at right e ∙ sym (scope_at left e))))
+    (eq-eqb (core_scope (core_at e right)) (core_scope (core_at e left)) (scope_at right e ∙ sym (scope_at left e))))
 
 -- ---- leaves
 
@@ -193,6 +194,7 @@ module _ (test : Term → Bool) (var : (k : ℕ) → IsTrue (test (Var k))) (nou
     where
       single : (f : Term) → IsTrue (all_leaves test f) → IsTrue (actions_leaves test (Cons (act f) Nil))
       single f q = true_both (action_leaves test (act f)) true (is f ∙ q) refl
+
       by_form : (t : Bool) → IsTrue (actions_leaves test (if t then Cons (act e) Nil else Cons (Let e) (Cons (act (Var k)) Nil)))
       by_form true = single e h
       by_form false = true_both (all_leaves test e) (actions_leaves test (Cons (act (Var k)) Nil)) h (single (Var k) (var k))
@@ -220,28 +222,28 @@ module _ (test : Term → Bool) (var : (k : ℕ) → IsTrue (test (Var k))) (nou
       let p = both_true (pipe_leaves test of) (all_leaves test body) h in
       true_both (core_leaves test (core_at e of)) _ (leaves_at of e p.0)
       (leaves_parts [] always (test_acts KeepIf (e + stream_width of) body) (variables e (stream_width of)) refl (truth true)
-        (leaves_test KeepIf (λ f. refl) (e + stream_width of) body p.1) (leaves_variables e (stream_width of)))
+      (leaves_test KeepIf (λ f. refl) (e + stream_width of) body p.1) (leaves_variables e (stream_width of)))
   leaves_at (stream.Take of count) e h =
       let p = both_true (pipe_leaves test of) (all_leaves test count) h in
       true_both (core_leaves test (core_at e of)) _ (leaves_at of e p.0)
       (leaves_parts (rows_asked count ∷ []) (Var e) (set_state (one_less e ∷ [])) (variables (e + 1) (stream_width of)) (rw (p.1, nought) refl) (var e)
-        (rw (var e, one) refl) (leaves_variables (e + 1) (stream_width of)))
+      (rw (var e, one) refl) (leaves_variables (e + 1) (stream_width of)))
   leaves_at (stream.Drop of count) e h =
       let p = both_true (pipe_leaves test of) (all_leaves test count) h in
       true_both (core_leaves test (core_at e of)) _ (leaves_at of e p.0)
       (leaves_parts (rows_asked count ∷ []) always (drop_acts e) (variables (e + 1) (stream_width of)) (rw (p.1, nought) refl) (truth true)
-        (rw (var e, one, truth false) refl) (leaves_variables (e + 1) (stream_width of)))
+      (rw (var e, one, truth false) refl) (leaves_variables (e + 1) (stream_width of)))
   leaves_at (stream.TakeWhile of body) e h =
       let p = both_true (pipe_leaves test of) (all_leaves test body) h in
       true_both (core_leaves test (core_at e of)) _ (leaves_at of e p.0)
       (leaves_parts [] always (test_acts StopUnless (e + stream_width of) body) (variables e (stream_width of)) refl (truth true)
-        (leaves_test StopUnless (λ f. refl) (e + stream_width of) body p.1) (leaves_variables e (stream_width of)))
+      (leaves_test StopUnless (λ f. refl) (e + stream_width of) body p.1) (leaves_variables e (stream_width of)))
   leaves_at (stream.Scan of seed next) e h =
       let p = both_true (pipe_leaves test of) (row_leaves test seed && row_leaves test next) h in
       let q = both_true (row_leaves test seed) (row_leaves test next) p.1 in
       true_both (core_leaves test (core_at e of)) _ (leaves_at of e p.0)
       (leaves_parts seed always (next_state (e + length seed + stream_width of) next) (variables e (length seed)) q.0 (truth true)
-        (leaves_state (e + length seed + stream_width of) next q.1) (leaves_variables e (length seed)))
+      (leaves_state (e + length seed + stream_width of) next q.1) (leaves_variables e (length seed)))
   leaves_at (stream.FlatMap of inner) e h =
       let p = both_true (pipe_leaves test of) (pipe_leaves test inner) h in
       true_both (core_leaves test (core_at e of)) (core_leaves test (core_at (e + stream_width of) inner)) (leaves_at of e p.0) (leaves_at inner (e + stream_width of) p.1)

@@ -134,8 +134,8 @@ module _ (env : List ℕ) (inputs : List Input) where
         (row_within (length env + m) (length env + m + length item) (omega arith) next next_bound) (same ∙ sym hs)
         (λ t x q. variables_at inputs (env ++ t) row x (env ++ (t ++ (row ++ x))) (length env + m) (length item) (omega (arith, length-append env t, q, same)) hr (sym (append_assoc env t (row ++ x))))
         ∙ ap (λ g. unless_broken g (λ t. Row row (go t)))
-          (ap (λ z. row_value next z inputs) (sym (append_assoc env s row))
-          ∙ row_before inputs next (env ++ s) row (subst (λ z. IsTrue (all_bound z next)) (omega (arith, length-append env s)) next_bound))
+        (ap (λ z. row_value next z inputs) (sym (append_assoc env s row))
+        ∙ row_before inputs next (env ++ s) row (subst (λ z. IsTrue (all_bound z next)) (omega (arith, length-append env s)) next_bound))
         ∙ by_state (row_value next (env ++ s) inputs) refl
       where
         by_state : (g : Got (List ℕ)) → row_value next (env ++ s) inputs ≡ g → unless_broken g (λ t. Row row (go t)) ≡ unless_broken g (λ t. Row row (more t))

@@ -77,16 +77,19 @@ module _ (env : List ℕ) (inputs : List Input) (w : ℕ) where
     where
       plain : row_item [] r ≡ r
       plain = ap (row_item []) (sym (append-nil r)) ∙ same_row r [] h
+
       by_word : (g : Got ℕ) → HasValue g → after_turn (turn_end (then_run (choice (or_zero g) (failed keep) (Continue [] r)) (λ t k. Continue t k)) row_item) go ≡ unless_broken g (λ b. choice b (rest_of keep m) (Row r m))
       by_word (Is b) q = tested keep b b r r go m refl plain e
       by_word (Fails f) q = absurd cc
+
       by_let : (g : Got ℕ) → after_turn (turn_end (then_run (let_word g [] r) (λ t k. run_acts (Cons (test_of keep (Var (length env + w))) Nil) env inputs t k)) row_item) go ≡ unless_broken g (λ b. choice b (rest_of keep m) (Row r m))
       by_let (Is b) =
           ap (λ u. after_turn (turn_end (then_run u (λ t k. Continue t k)) row_item) go) (test_is keep (Var (length env + w)) (r ++ b ∷ []))
           ∙ tested keep b _ r (r ++ b ∷ []) go m
-            (ap (λ z. slice_index z (length env + w)) (sym (append_assoc env r (b ∷ []))) ∙ word_behind (env ++ r) [] b (length env + w) (omega (arith, length-append env r)))
-            (same_row r (b ∷ []) h) e
+          (ap (λ z. slice_index z (length env + w)) (sym (append_assoc env r (b ∷ []))) ∙ word_behind (env ++ r) [] b (length env + w) (omega (arith, length-append env r)))
+          (same_row r (b ∷ []) h) e
       by_let (Fails f) = refl
+
       by_form : (t : Bool) → is_undivided body ≡ t → after_turn (core_turn (if t then Cons (test_of keep body) Nil else Cons (Let body) (Cons (test_of keep (Var (length env + w))) Nil)) (variables (length env) w) env inputs [] r) go ≡ unless_broken (value body (env ++ r) inputs) (λ b. choice b (rest_of keep m) (Row r m))
       by_form true q =
           ap (λ u. after_turn (turn_end (then_run u (λ t k. Continue t k)) row_item) go) (test_is keep body r)

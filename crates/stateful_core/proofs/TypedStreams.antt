@@ -75,9 +75,10 @@ module _ (laws : Laws) (inputs : List InputKind) where
     words_of (e ∷ es) ks h =
         let rest = rest_some (kind_of inputs scope e) (kinds_of inputs scope es) ks h in
         let more = words_of es rest.0 rest.1.0 in
-        let some = first_some (kind_of inputs scope e) (kinds_of inputs scope es) ks h in
-        (true_both (is_bound (length scope) e) (all_bound (length scope) es) (laws.bound inputs scope e some) more.0,
-         (true_both (names e) (named_row es) (laws.input_names inputs scope e some) more.1.0, ap suc more.1.1 ∙ sym rest.1.1))
+        let some = first_some (kind_of inputs scope e) (kinds_of inputs scope es) ks h in (
+          true_both (is_bound (length scope) e) (all_bound (length scope) es) (laws.bound inputs scope e some) more.0,
+          (true_both (names e) (named_row es) (laws.input_names inputs scope e some) more.1.0, ap suc more.1.1 ∙ sym rest.1.1),
+        )
 
     row_of : (es : List Term) (ks : List Kind) → row_kinds inputs scope es ≡ Some ks → Row (length scope) es ks
     row_of es ks h =
@@ -129,9 +130,10 @@ module _ (laws : Laws) (inputs : List InputKind) where
       let under = under_kinds (stream_kinds inputs scope of) (λ row. kinds_where (is_kind k (kind_of inputs (scope ++ row) body)) row) ks h in
       let test = where_kinds (is_kind k (kind_of inputs (scope ++ under.0) body)) under.0 ks under.1.1 in
       let below = ih under.0 under.1.0 in
-      let facts = test_of (scope ++ under.0) k body test.0 in
-      (subst (λ z. FromKinds (length scope) of (length z)) test.1 below,
-       (subst (λ z. IsTrue (is_bound z body)) (inside scope under.0 (stream_width of) below.width) facts.0, facts.1))
+      let facts = test_of (scope ++ under.0) k body test.0 in (
+        subst (λ z. FromKinds (length scope) of (length z)) test.1 below,
+        (subst (λ z. IsTrue (is_bound z body)) (inside scope under.0 (stream_width of) below.width) facts.0, facts.1),
+      )
 
   counted : (scope : List Kind) (of : Pipe) (count : Term) (ks : List Kind) → ((row : List Kind) → stream_kinds inputs scope of ≡ Some row → FromKinds (length scope) of (length row)) → with_kinds (stream_kinds inputs scope of) (λ row. kinds_where (opens inputs scope kind.Int count) row) ≡ Some ks → FromKinds (length scope) of (length ks) × (IsTrue (is_sure (length scope) count) × IsTrue (names count))
   counted scope of count ks ih h =
@@ -196,7 +198,7 @@ module _ (laws : Laws) (inputs : List InputKind) where
       let parts = where_kinds (same_kinds state (row_kinds inputs ((scope ++ state) ++ row) next)) state ks first.1.1 in
       let opens = seed_of scope seed state first.1.0 in
       let q : length scope + length seed + stream_width of ≡ length ((scope ++ state) ++ row) =
-          sym (inside (scope ++ state) row (stream_width of) below.width ∙ ap (λ n. n + stream_width of) (inside scope state (length seed) opens.1.1)) in
+      sym (inside (scope ++ state) row (stream_width of) below.width ∙ ap (λ n. n + stream_width of) (inside scope state (length seed) opens.1.1)) in
       let follows = next_of ((scope ++ state) ++ row) state seed next (length scope) (length scope + length seed + stream_width of) q opens.0 opens.1.1 parts.0 in
       record {
         scoped = (below.scoped, follows.0);

@@ -64,7 +64,7 @@ module _ (e : ℕ) where
       by_form false = omega (arith, is (Var k))
 
 -- the rows of a chain have at most 8 words
-narrow : (p : Pipe) (e : ℕ) → IsTrue (is_chain p) → IsScoped e p → stream_width p ≤ 8
+pub narrow : (p : Pipe) (e : ℕ) → IsTrue (is_chain p) → IsScoped e p → stream_width p ≤ 8
 narrow (stream.Array k) e c s = omega arith
 narrow (stream.Range a b) e c s = omega arith
 narrow (stream.Unfold seed guard item next) e c s = s.1.1.few
@@ -76,6 +76,8 @@ narrow (stream.TakeWhile of body) e c s = narrow of e c s.0
 narrow (stream.Scan of seed next) e c s = omega (arith, s.1.same, s.1.follows.few)
 narrow (stream.FlatMap of inner) e c s = absurd cc
 narrow (stream.Zip left right) e c s = absurd cc
+
+pub ruleset chain_steps = (narrow)
 
 pub words_at : (p : Pipe) (e : ℕ) → IsTrue (is_chain p) → IsScoped e p → added_words (core_at e p) ≤ 32 * stream_ops p
 words_at (stream.Array k) e c s = omega (arith, words_set e (one_more e ∷ []))

@@ -9,6 +9,8 @@
 mod acts;
 mod core_term;
 mod expressions;
+mod program_core;
 mod stream_core;
 
 pub use core_term::{Act, Acts, Core};
+pub use program_core::core_of;

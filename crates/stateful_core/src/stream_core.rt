@@ -1,6 +1,6 @@
 //! The core of a stream: what each source and each stage becomes.
 
-ghost use Rattle.std.specs.Prelude.{◌≡◌, ◌+◌, ◌<◌, ◌≤◌, ◌^◌, length, IfOk, IsTrue};
+ghost use Rattle.std.specs.Prelude.{◌≡◌, ◌+◌, ◌<◌, ◌≤◌, ◌^◌, [], ◌∷◌, length, IfOk, IsTrue};
 ghost use Rattle.list_denotation.specs.Copies.{term_of, terms_of, pipe_of};
 ghost use Rattle.stateful_core.specs.CoreTerms.{Lin, Tr};
 ghost use Rattle.stateful_core.specs.CoreCopies.{actions_of, core_term_of};
@@ -29,7 +29,16 @@ fn source(
         ≡ Lin scope (terms_of init) (term_of guard.value) (actions_of acts) (terms_of item)) }
 {
     let guard = Box::into_inner(guard);
-    Ok(Box::new(alloc, Core::Lin { scope, init, guard, acts, item })?)
+    Ok(Box::new(
+        alloc,
+        Core::Lin {
+            scope,
+            init,
+            guard,
+            acts,
+            item,
+        },
+    )?)
 }
 
 fn stage(
@@ -46,7 +55,17 @@ fn stage(
         (actions_of acts) (terms_of item)) }
 {
     let guard = Box::into_inner(guard);
-    Ok(Box::new(alloc, Core::Tr { scope, of, init, guard, acts, item })?)
+    Ok(Box::new(
+        alloc,
+        Core::Tr {
+            scope,
+            of,
+            init,
+            guard,
+            acts,
+            item,
+        },
+    )?)
 }
 
 fn array_core(alloc: Global, scope: u32, k: u32) -> Result<Box<Core>, NoMemory>
@@ -92,4 +111,232 @@ fn range_core(alloc: Global, scope: u32, low: &Expr, high: &Expr) -> Result<Box<
     push_set(step(alloc, BinOp::Add, scope)?, &mut acts)?;
     let item = variables(alloc, scope + 1, 1)?;
     source(alloc, scope, init, guard, acts, item)
+}
+
+/// The words of a row.
+#[tactic(auto, using(crate::proofs::AppendedActs::terms_length))]
+fn width(es: &Exprs) -> u32
+    requires { length (terms_of es.now) < 2 ^ 32 }
+    ensures { result ≡ length (terms_of es.now) }
+{
+    es.len() as u32
+}
+
+#[tactic(auto, using(crate::proofs::AppendedActs::row_steps))]
+fn unfold_core(
+    alloc: Global,
+    scope: u32,
+    seed: &Exprs,
+    guard: &Expr,
+    item: &Exprs,
+    next: &Exprs,
+) -> Result<Box<Core>, NoMemory>
+    requires seed { length (terms_of seed.now) ≤ 8 }
+    requires item { length (terms_of item.now) ≤ 8 }
+    requires next { length (terms_of next.now) ≤ 8 }
+    requires room { scope < 2 ^ 16 }
+    ensures { IfOk result (λ made. core_term_of made.value
+        ≡ unfold_core scope (terms_of seed.now) (term_of guard.now) (terms_of item.now)
+        (terms_of next.now)) }
+{
+    let init = copies(alloc, seed)?;
+    let guard = copy(alloc, guard)?;
+    let first = scope + width(seed);
+    let row = variables(alloc, first, width(item))?;
+    let mut acts = List::new(alloc);
+    push_lets(alloc, item, &mut acts)?;
+    push_state(alloc, first + width(item), next, &mut acts)?;
+    source(alloc, scope, init, guard, acts, row)
+}
+
+#[tactic(auto, using(crate::proofs::AppendedActs::row_steps))]
+fn map_core(
+    alloc: Global,
+    scope: u32,
+    wide: u32,
+    of: Box<Core>,
+    body: &Exprs,
+) -> Result<Box<Core>, NoMemory>
+    requires body { length (terms_of body.now) ≤ 8 }
+    requires wide { wide ≤ 8 }
+    requires room { scope < 2 ^ 16 }
+    ensures { IfOk result (λ made. core_term_of made.value
+        ≡ map_core scope wide (core_term_of of.value) (terms_of body.now)) }
+{
+    let row = variables(alloc, scope + wide, width(body))?;
+    let guard = boxed(alloc, Expr::Truth(true))?;
+    let mut acts = List::new(alloc);
+    push_lets(alloc, body, &mut acts)?;
+    stage(alloc, scope, of, List::new(alloc), guard, acts, row)
+}
+
+fn test_core(
+    alloc: Global,
+    test: RowTest,
+    scope: u32,
+    wide: u32,
+    of: Box<Core>,
+    body: &Expr,
+) -> Result<Box<Core>, NoMemory>
+    requires wide { wide ≤ 8 }
+    requires room { scope < 2 ^ 16 }
+    ensures { IfOk result (λ made. core_term_of made.value
+        ≡ test_core (test_action test) scope wide (core_term_of of.value) (term_of body.now)) }
+{
+    let row = variables(alloc, scope, wide)?;
+    let guard = boxed(alloc, Expr::Truth(true))?;
+    let acts = row_test(alloc, test, scope + wide, body)?;
+    stage(alloc, scope, of, List::new(alloc), guard, acts, row)
+}
+
+fn rows_asked(alloc: Global, count: &Expr) -> Result<Exprs, NoMemory>
+    ensures { IfOk result (λ made. terms_of made ≡ rows_asked (term_of count.now) ∷ []) }
+{
+    let number = copy(alloc, count)?;
+    let zero = boxed(alloc, Expr::Lit(0))?;
+    let negative = boxed(alloc, Expr::Bin(BinOp::Lt, number, zero))?;
+    let zero = boxed(alloc, Expr::Lit(0))?;
+    let number = copy(alloc, count)?;
+    let asked = boxed(alloc, Expr::If(negative, zero, number))?;
+    single(alloc, asked)
+}
+
+fn take_core(
+    alloc: Global,
+    scope: u32,
+    wide: u32,
+    of: Box<Core>,
+    count: &Expr,
+) -> Result<Box<Core>, NoMemory>
+    requires wide { wide ≤ 8 }
+    requires room { scope < 2 ^ 16 }
+    ensures { IfOk result (λ made. core_term_of made.value
+        ≡ take_core scope wide (core_term_of of.value) (term_of count.now)) }
+{
+    let init = rows_asked(alloc, count)?;
+    let row = variables(alloc, scope + 1, wide)?;
+    let guard = boxed(alloc, Expr::Var(scope))?;
+    let mut acts = List::new(alloc);
+    push_set(step(alloc, BinOp::Sub, scope)?, &mut acts)?;
+    stage(alloc, scope, of, init, guard, acts, row)
+}
+
+#[tactic(auto, using(crate::proofs::AppendedActs::drop_made))]
+fn drop_acts(alloc: Global, k: u32) -> Result<Acts, NoMemory>
+    ensures { IfOk result (λ made. actions_of made ≡ drop_acts k) }
+{
+    let mut inside = List::new(alloc);
+    push_set(step(alloc, BinOp::Sub, k)?, &mut inside)?;
+    inside.push(Act::KeepIf(Expr::Truth(false)))?;
+    let mut acts = List::new(alloc);
+    acts.push(Act::When(Expr::Var(k), inside, List::new(alloc)))?;
+    Ok(acts)
+}
+
+fn drop_core(
+    alloc: Global,
+    scope: u32,
+    wide: u32,
+    of: Box<Core>,
+    count: &Expr,
+) -> Result<Box<Core>, NoMemory>
+    requires wide { wide ≤ 8 }
+    requires room { scope < 2 ^ 16 }
+    ensures { IfOk result (λ made. core_term_of made.value
+        ≡ drop_core scope wide (core_term_of of.value) (term_of count.now)) }
+{
+    let init = rows_asked(alloc, count)?;
+    let row = variables(alloc, scope + 1, wide)?;
+    let guard = boxed(alloc, Expr::Truth(true))?;
+    let acts = drop_acts(alloc, scope)?;
+    stage(alloc, scope, of, init, guard, acts, row)
+}
+
+#[tactic(auto, using(crate::proofs::AppendedActs::row_steps))]
+fn scan_core(
+    alloc: Global,
+    scope: u32,
+    wide: u32,
+    of: Box<Core>,
+    seed: &Exprs,
+    next: &Exprs,
+) -> Result<Box<Core>, NoMemory>
+    requires seed { length (terms_of seed.now) ≤ 8 }
+    requires next { length (terms_of next.now) ≤ 8 }
+    requires wide { wide ≤ 8 }
+    requires room { scope < 2 ^ 16 }
+    ensures { IfOk result (λ made. core_term_of made.value
+        ≡ scan_core scope wide (core_term_of of.value) (terms_of seed.now) (terms_of next.now)) }
+{
+    let init = copies(alloc, seed)?;
+    let row = variables(alloc, scope, width(seed))?;
+    let guard = boxed(alloc, Expr::Truth(true))?;
+    let mut acts = List::new(alloc);
+    push_state(alloc, scope + width(seed) + wide, next, &mut acts)?;
+    stage(alloc, scope, of, init, guard, acts, row)
+}
+
+/// The words of a stream's rows.
+#[tactic(auto, using(crate::proofs::AppendedActs::terms_length))]
+fn stream_width(s: &Stream) -> u32
+    requires { stream_width (pipe_of s.now) < 2 ^ 32 }
+    ensures { result ≡ stream_width (pipe_of s.now) }
+{
+    match s {
+        Stream::Array(_) | Stream::Range(_, _) => 1,
+        Stream::Unfold { item, .. } => width(item),
+        Stream::Map(_, body) => width(body),
+        Stream::Filter(of, _) => stream_width(of),
+        Stream::Take(of, _) => stream_width(of),
+        Stream::Drop(of, _) => stream_width(of),
+        Stream::TakeWhile(of, _) => stream_width(of),
+        Stream::Scan { seed, .. } => width(seed),
+        Stream::FlatMap(_, inner) => stream_width(inner),
+        Stream::Zip(left, right) => stream_width(left) + stream_width(right),
+    }
+}
+
+/// The core of a stream in a scope of so many bound words.
+#[tactic(auto, using(crate::proofs::WordCounts::chain_steps))]
+pub fn core_at(alloc: Global, s: &Stream, scope: u32) -> Result<Box<Core>, NoMemory>
+    requires chain { IsTrue (is_chain (pipe_of s.now)) }
+    requires scoped { IsScoped scope (pipe_of s.now) }
+    requires room { scope < 2 ^ 16 }
+    ensures { IfOk result (λ made. core_term_of made.value ≡ core_at scope (pipe_of s.now)) }
+{
+    match s {
+        Stream::Array(k) => array_core(alloc, scope, *k),
+        Stream::Range(low, high) => range_core(alloc, scope, low, high),
+        Stream::Unfold {
+            seed,
+            guard,
+            item,
+            next,
+        } => { unfold_core(alloc, scope, seed, guard, item, next) }
+        Stream::Map(of, body) => {
+            let below = core_at(alloc, of, scope)?;
+            map_core(alloc, scope, stream_width(of), below, body)
+        }
+        Stream::Filter(of, body) => {
+            let below = core_at(alloc, of, scope)?;
+            test_core(alloc, RowTest::Leave, scope, stream_width(of), below, body)
+        }
+        Stream::Take(of, count) => {
+            let below = core_at(alloc, of, scope)?;
+            take_core(alloc, scope, stream_width(of), below, count)
+        }
+        Stream::Drop(of, count) => {
+            let below = core_at(alloc, of, scope)?;
+            drop_core(alloc, scope, stream_width(of), below, count)
+        }
+        Stream::TakeWhile(of, body) => {
+            let below = core_at(alloc, of, scope)?;
+            test_core(alloc, RowTest::Stop, scope, stream_width(of), below, body)
+        }
+        Stream::Scan { of, seed, next } => {
+            let below = core_at(alloc, of, scope)?;
+            scan_core(alloc, scope, stream_width(of), below, seed, next)
+        }
+        Stream::FlatMap(_, _) | Stream::Zip(_, _) => unreachable!(),
+    }
 }

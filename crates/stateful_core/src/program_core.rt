@@ -1,0 +1,34 @@
+//! The core of a program.
+
+ghost use Rattle.std.specs.Prelude.{IfOk, IsTrue};
+ghost use Rattle.list_denotation.specs.Copies.{pipe_of};
+ghost use Rattle.list_denotation.specs.Pipelines.{pipeline_of};
+ghost use Rattle.stateful_core.specs.CoreCopies.{core_term_of};
+ghost use Rattle.stateful_core.specs.CorePromise.{IsCoreOf};
+ghost use Rattle.stateful_core.specs.Laws.{Laws};
+ghost use Rattle.stateful_core.specs.StreamCores.{is_chain};
+
+use crate::core_term::Core;
+use crate::stream_core::core_at;
+use list_denotation::{Program, typed_expressions_read_the_scope, typed_programs_keep_limits};
+use std::alloc::Global;
+use strm_num::NoMemory;
+
+// What list_denotation promises of its definitions.
+fn laws_below()
+    ensures { Laws }
+{
+    typed_programs_keep_limits();
+    typed_expressions_read_the_scope();
+}
+
+/// The core of a program whose stream is a chain: a source and stages, no `flatMap` and no `zip`. It
+/// is well formed and stands in the scope of no words, has the lists of the stream at each input that
+/// fits and each bound, and its work is that of the stream. The one error is `NoMemory`.
+pub fn core_of(alloc: Global, p: &Program) -> Result<Core, NoMemory>
+    requires { IsTrue (is_chain (pipe_of p.now.stream)) }
+    ensures { IfOk result (λ c. IsCoreOf (pipeline_of p.now) (core_term_of c)) }
+{
+    laws_below();
+    Ok(Box::into_inner(core_at(alloc, &p.stream, 0)?))
+}
