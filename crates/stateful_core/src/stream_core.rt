@@ -6,7 +6,8 @@ ghost use Rattle.stateful_core.specs.CoreTerms.{Lin, Tr};
 ghost use Rattle.stateful_core.specs.CoreCopies.{actions_of, core_term_of};
 ghost use Rattle.stateful_core.specs.RowTests.{test_action};
 ghost use Rattle.stateful_core.specs.ScopedStreams.{IsScoped};
-ghost use Rattle.stateful_core.specs.StreamCores.{rows_asked, drop_acts, array_core, range_start, range_core};
+ghost use Rattle.stateful_core.specs.StreamCores.{rows_asked, drop_acts, array_core};
+ghost use Rattle.stateful_core.specs.StreamCores.{range_start, range_core};
 ghost use Rattle.stateful_core.specs.StreamCores.{unfold_core, map_core, test_core, take_core};
 ghost use Rattle.stateful_core.specs.StreamCores.{drop_core, scan_core, core_at, stream_width, is_chain};
 
@@ -338,5 +339,21 @@ pub fn core_at(alloc: Global, s: &Stream, scope: u32) -> Result<Box<Core>, NoMem
             scan_core(alloc, scope, stream_width(of), below, seed, next)
         }
         Stream::FlatMap(_, _) | Stream::Zip(_, _) => unreachable!(),
+    }
+}
+
+/// Whether a stream is a chain, a source and stages: no `flatMap` and no `zip` stands in it.
+pub fn is_chain(s: &Stream) -> bool
+    ensures { result ≡ is_chain (pipe_of s.now) }
+{
+    match s {
+        Stream::Array(_) | Stream::Range(_, _) | Stream::Unfold { .. } => true,
+        Stream::Map(of, _) => is_chain(of),
+        Stream::Filter(of, _) => is_chain(of),
+        Stream::Take(of, _) => is_chain(of),
+        Stream::Drop(of, _) => is_chain(of),
+        Stream::TakeWhile(of, _) => is_chain(of),
+        Stream::Scan { of, .. } => is_chain(of),
+        Stream::FlatMap(_, _) | Stream::Zip(_, _) => false,
     }
 }
