@@ -1,10 +1,11 @@
 //! Core terms: streams as states, guards and acts, between the lists and the loops.
 //!
-//! It depends on list_denotation. A core term says how rows are made turn by turn. Its rows, its work,
-//! the test of well-formed terms and the bound on its words stand in `specs/`, on plain copies of the
-//! terms, and so does the core of a stream. `core_of` carries the promise: the core of a program is
-//! well formed, names its inputs alone, has the lists of its stream at each input that fits and each
-//! bound, with their work, and few words. It takes streams for which `is_chain` holds.
+//! It depends on list_denotation. A core term says how rows are made turn by turn. Its rows, its
+//! work, the test of well-formed terms and the bound on its words stand in `specs/`, on plain
+//! copies of the terms, and so does the core of a stream. `core_of` carries the promise: the core
+//! of a program is well formed, names its inputs alone, has the lists of its stream at each input
+//! that fits and each bound, with their work, and few words. It takes streams for which `is_chain`
+//! holds.
 #![tactic(auto)]
 
 mod acts;

@@ -22,9 +22,10 @@ fn laws_below()
     typed_expressions_read_the_scope();
 }
 
-/// The core of a program whose stream is a chain: a source and stages, no `flatMap` and no `zip`. It
-/// is well formed and stands in the scope of no words, has the lists of the stream at each input that
-/// fits and each bound, and its work is that of the stream. The one error is `NoMemory`.
+/// The core of a program whose stream is a chain: a source and stages, no `flatMap` and no `zip`.
+/// It is well formed and stands in the scope of no words, has the lists of the stream at each
+/// input that fits and each bound, and its work is that of the stream. The one error is
+/// `NoMemory`.
 pub fn core_of(alloc: Global, p: &Program) -> Result<Core, NoMemory>
     requires { IsTrue (is_chain (pipe_of p.now.stream)) }
     ensures { IfOk result (λ c. IsCoreOf (pipeline_of p.now) (core_term_of c)) }

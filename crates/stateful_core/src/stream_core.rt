@@ -9,7 +9,8 @@ ghost use Rattle.stateful_core.specs.ScopedStreams.{IsScoped};
 ghost use Rattle.stateful_core.specs.StreamCores.{rows_asked, drop_acts, array_core};
 ghost use Rattle.stateful_core.specs.StreamCores.{range_start, range_core};
 ghost use Rattle.stateful_core.specs.StreamCores.{unfold_core, map_core, test_core, take_core};
-ghost use Rattle.stateful_core.specs.StreamCores.{drop_core, scan_core, core_at, stream_width, is_chain};
+ghost use Rattle.stateful_core.specs.StreamCores.{drop_core, scan_core, core_at};
+ghost use Rattle.stateful_core.specs.StreamCores.{stream_width, is_chain};
 
 use crate::acts::{RowTest, push_lets, push_set, push_state, row_test, single, step};
 use crate::core_term::{Act, Acts, Core};
