@@ -1,15 +1,12 @@
 -- The core of a typed chain has all that is promised of it.
-use Rattle.std.proofs.Common.{◌≡◌, ℕ, ◌+◌, ◌*◌, ◌^◌, ◌≤◌, ◌<◌, max, List, [], ◌∷◌, length, Option, Some, None, Bool, true, false, ◌&&◌, refl, sym, ap, ◌∙◌, subst, arith}
+use Rattle.std.proofs.Common.{◌≡◌, ℕ, ◌+◌, ◌*◌, ◌^◌, ◌≤◌, max, List, [], length, Option, Some, None, ◌&&◌, refl, sym, ap, ◌∙◌, arith}
 use Rattle.std.specs.Prelude.{IsTrue, nat_lt}
 use Rattle.std.proofs.lemmas.Bool.{lt-ltb}
 use Rattle.strm_num.proofs.Truths.{both_true, true_both}
-use Rattle.list_denotation.specs.declared.input.InputKind.{InputKind}
 use Rattle.list_denotation.specs.declared.kind.Kind.{Kind}
 use Rattle.list_denotation.specs.declared.program.Program.{Program}
-use Rattle.list_denotation.specs.declared.stream.Stream.{Stream}
-use Rattle.list_denotation.specs.declared.terminal.Terminal.{Terminal}
 use Rattle.list_denotation.specs.Copies.{pipe_of, finish_of}
-use Rattle.list_denotation.specs.Counts.{stream_ops, stream_depth, depth, most_vars}
+use Rattle.list_denotation.specs.Counts.{stream_ops, stream_depth, depth}
 use Rattle.list_denotation.specs.InputNames.{is_named_leaf, declared_inputs}
 use Rattle.list_denotation.specs.Literals.{is_word_leaf, has_words, all_have_words, pipe_has_words, finish_has_words, program_has_words}
 use Rattle.list_denotation.specs.Pipelines.{pipeline_of}
@@ -19,7 +16,7 @@ use Rattle.stateful_core.specs.CorePromise.{IsCoreOf}
 use Rattle.stateful_core.specs.CoreTerms.{CoreTerm}
 use Rattle.stateful_core.specs.Laws.{Laws}
 use Rattle.stateful_core.specs.MostWords.{most_words}
-use Rattle.stateful_core.specs.StreamCores.{stream_width, core_at, is_chain}
+use Rattle.stateful_core.specs.StreamCores.{core_at, is_chain}
 use Rattle.stateful_core.specs.WellFormed.{is_sound_core}
 use Rattle.stateful_core.proofs.CoreWidths.{scope_at, width_at, zips_at}
 use Rattle.stateful_core.proofs.InputSizes.{small_inputs}

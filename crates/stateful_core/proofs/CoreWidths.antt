@@ -1,15 +1,15 @@
 -- The scope and the width of the core of a stream, and the width of the rows of a core term.
-use Rattle.std.proofs.Common.{◌≡◌, ℕ, zero, suc, ◌+◌, List, [], ◌∷◌, ◌++◌, length, Bool, true, false, ◌||◌, refl, sym, ap, ◌∙◌, arith, length-append}
+use Rattle.std.proofs.Common.{◌≡◌, ℕ, zero, suc, ◌+◌, List, [], ◌++◌, length, refl, arith, length-append}
 use Rattle.list_denotation.specs.declared.input.Input.{Input}
 use Rattle.list_denotation.specs.Terms as stream
 use Rattle.list_denotation.specs.Terms.{Term, Pipe}
 use Rattle.list_denotation.specs.Rows.{Rows, Ends, Row, End, Cut, Broken, followed_by, join_rows, zip_rows}
 use Rattle.list_denotation.specs.Values.{choice}
-use Rattle.stateful_core.specs.CoreTerms.{Actions, CoreTerm, Lin, Tr, Nest, Zip}
+use Rattle.stateful_core.specs.CoreTerms.{CoreTerm, Lin, Tr, Nest, Zip}
 use Rattle.stateful_core.specs.WordValues.{word_values}
 use Rattle.stateful_core.specs.Actions.{ActResult, Continue, Skip, Halt, Break, run_acts}
 use Rattle.stateful_core.specs.Turns.{Turn, Gives, Skips, Stops, Breaks, after_turn, turn_rows, stage_rows}
-use Rattle.stateful_core.specs.CoreRows.{turn_end, core_turn, core_rows}
+use Rattle.stateful_core.specs.CoreRows.{turn_end, core_rows}
 use Rattle.stateful_core.specs.CoreShapes.{core_scope, core_width, has_zip}
 use Rattle.stateful_core.specs.StreamCores.{stream_width, core_at, stream_has_zip}
 use Rattle.stateful_core.proofs.LongerScopes.{length_variables, length_word_values}

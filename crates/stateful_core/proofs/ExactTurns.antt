@@ -1,7 +1,7 @@
 -- Where no KeepIf stands in the acts, each turn that is counted gives a row.
-use Rattle.std.proofs.Common.{◌≡◌, ℕ, zero, suc, ◌+◌, List, [], ◌∷◌, ◌++◌, length, Option, Some, None, Bool, true, false, ◌&&◌, refl, sym, ap, ◌∙◌}
+use Rattle.std.proofs.Common.{◌≡◌, ℕ, zero, suc, ◌+◌, List, [], ◌∷◌, ◌++◌, length, Option, Some, None, Bool, true, false, refl, ap}
 use Rattle.std.specs.Prelude.{IsTrue, slice_get, if◌then◌else◌}
-use Rattle.strm_num.proofs.Truths.{both_true, true_both}
+use Rattle.strm_num.proofs.Truths.{both_true}
 use Rattle.list_denotation.specs.declared.input.Input.{Input}
 use Rattle.list_denotation.specs.Terms.{Term}
 use Rattle.list_denotation.specs.Inputs.{items_in}

@@ -1,15 +1,15 @@
 -- Expressions over longer scopes, and rows of variables.
-use Rattle.std.proofs.Common.{◌≡◌, ℕ, zero, suc, ◌+◌, ◌≤◌, ◌<◌, List, [], ◌∷◌, ◌++◌, length, Bool, true, false, ◌&&◌, refl, sym, ap, ◌∙◌, subst, arith, length-append, append_assoc}
+use Rattle.std.proofs.Common.{◌≡◌, ℕ, zero, suc, ◌≤◌, List, [], ◌∷◌, ◌++◌, length, Bool, ◌&&◌, refl, sym, ap, ◌∙◌, arith, length-append, append_assoc}
 use Rattle.std.proofs.lemmas.List.{get_or_append_left, get_or_at}
 use Rattle.std.proofs.lemmas.Bool.{ltb-true, lt-ltb}
-use Rattle.std.specs.Prelude.{IsTrue, nat_lt, slice_index}
+use Rattle.std.specs.Prelude.{IsTrue, slice_index}
 use Rattle.strm_num.proofs.Truths.{both_true, true_both}
 use Rattle.list_denotation.specs.declared.input.Input.{Input}
 use Rattle.list_denotation.specs.Terms.{Term, Lit, Truth, Var, Param, Len, Neg, Not, Bin, And, Or, If}
 use Rattle.list_denotation.specs.Leaves.{all_leaves}
 use Rattle.list_denotation.specs.Scopes.{is_bound_leaf, is_bound, all_bound}
 use Rattle.list_denotation.specs.Values.{Got, Is, Fails, with_value, value, row_value}
-use Rattle.stateful_core.specs.WordValues.{word_value, word_values}
+use Rattle.stateful_core.specs.WordValues.{word_values}
 use Rattle.stateful_core.specs.StreamCores.{variables}
 
 -- ---- scopes

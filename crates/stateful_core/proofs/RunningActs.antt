@@ -1,5 +1,5 @@
 -- What local words of a row and a new state come to.
-use Rattle.std.proofs.Common.{◌≡◌, ℕ, zero, suc, ◌+◌, ◌≤◌, List, [], ◌∷◌, ◌++◌, length, Bool, true, false, ◌&&◌, refl, sym, ap, ◌∙◌, subst, arith, length-append, append_assoc, append-nil}
+use Rattle.std.proofs.Common.{◌≡◌, ℕ, List, [], ◌∷◌, ◌++◌, length, Bool, true, false, refl, sym, ap, ◌∙◌, subst, arith, append_assoc, append-nil}
 use Rattle.std.specs.Prelude.{IsTrue, if◌then◌else◌}
 use Rattle.strm_num.proofs.Truths.{both_true}
 use Rattle.list_denotation.specs.declared.input.Input.{Input}
@@ -8,7 +8,7 @@ use Rattle.list_denotation.specs.Rows.{Rows, Row, unless_broken}
 use Rattle.list_denotation.specs.Scopes.{is_bound, all_bound}
 use Rattle.list_denotation.specs.Typing.{all_undivided}
 use Rattle.list_denotation.specs.Values.{Got, Is, Fails, with_value, value, row_value}
-use Rattle.stateful_core.specs.CoreTerms.{Actions, Nil}
+use Rattle.stateful_core.specs.CoreTerms.{Actions}
 use Rattle.stateful_core.specs.WordValues.{word_values}
 use Rattle.stateful_core.specs.Actions.{ActResult, Continue, Break, then_run, overwrite, let_word, run_acts}
 use Rattle.stateful_core.specs.Turns.{after_turn}

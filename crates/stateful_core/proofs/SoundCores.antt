@@ -1,5 +1,5 @@
 -- The core of a stream is sound, and each leaf of it passes the tests that the stream's leaves pass.
-use Rattle.std.proofs.Common.{◌≡◌, ℕ, zero, suc, ◌+◌, ◌^◌, ◌≤◌, ◌<◌, List, [], ◌∷◌, ◌++◌, length, Bool, true, false, ◌&&◌, refl, sym, ap, ◌∙◌, subst, arith, length-append}
+use Rattle.std.proofs.Common.{◌≡◌, ℕ, zero, suc, ◌+◌, ◌≤◌, ◌<◌, List, [], ◌∷◌, length, Bool, true, false, ◌&&◌, refl, sym, ◌∙◌, subst, arith}
 use Rattle.std.specs.Prelude.{IsTrue, nat_lt, nat_le, ◌==◌, if◌then◌else◌}
 use Rattle.std.proofs.lemmas.Bool.{lt-ltb, le-leb, eq-eqb}
 use Rattle.strm_num.proofs.Truths.{both_true, true_both}
@@ -8,14 +8,14 @@ use Rattle.list_denotation.specs.Scopes.{is_bound, all_bound}
 use Rattle.list_denotation.specs.Terms as stream
 use Rattle.list_denotation.specs.Terms.{Term, Lit, Truth, Var, Len, Pipe}
 use Rattle.list_denotation.specs.Typing.{is_undivided, all_undivided}
-use Rattle.stateful_core.specs.CoreTerms.{Action, Let, KeepIf, StopUnless, Actions, Nil, Cons, CoreTerm}
-use Rattle.stateful_core.specs.CoreShapes.{action_locals, actions_locals, core_scope, core_width}
+use Rattle.stateful_core.specs.CoreTerms.{Action, Let, KeepIf, StopUnless, Actions, Nil, Cons}
+use Rattle.stateful_core.specs.CoreShapes.{actions_locals, core_scope, core_width}
 use Rattle.stateful_core.specs.CoreLeaves.{row_leaves, action_leaves, actions_leaves, parts_leaves, core_leaves}
 use Rattle.stateful_core.specs.StreamCores.{variables, let_all, set_state, next_state, test_acts, always, one_less, rows_asked, drop_acts, stream_width, core_at}
 use Rattle.stateful_core.specs.WellFormed.{is_sure, all_sure, is_sound_action, are_sound_actions, are_sound_parts, is_sound_core}
 use Rattle.stateful_core.proofs.CoreWidths.{scope_at, width_at}
 use Rattle.stateful_core.proofs.LongerScopes.{bound_within, row_within, length_variables}
-use Rattle.stateful_core.specs.ScopedStreams.{IsRowOver, IsState, IsScoped, pipe_leaves}
+use Rattle.stateful_core.specs.ScopedStreams.{IsScoped, pipe_leaves}
 
 -- ---- sound parts
 

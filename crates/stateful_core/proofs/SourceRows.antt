@@ -14,8 +14,8 @@ use Rattle.list_denotation.specs.Rows.{Rows, Ends, Row, End, Cut, unless_broken,
 use Rattle.list_denotation.specs.Scopes.{is_bound, all_bound}
 use Rattle.list_denotation.specs.Typing.{is_undivided}
 use Rattle.list_denotation.specs.Values.{Got, Is, Fails, choice, value, row_value}
-use Rattle.stateful_core.specs.CoreTerms.{Let, Read, Actions, Nil, Cons}
-use Rattle.stateful_core.specs.WordValues.{word_value, word_values}
+use Rattle.stateful_core.specs.CoreTerms.{Let, Read, Cons}
+use Rattle.stateful_core.specs.WordValues.{word_values}
 use Rattle.stateful_core.specs.Actions.{run_acts}
 use Rattle.stateful_core.specs.Turns.{Turn, Gives, after_turn, turn_rows}
 use Rattle.stateful_core.specs.CoreRows.{turn_end, core_turn, guard_value}

@@ -1,23 +1,23 @@
 -- The core of a stream has its rows and its work.
-use Rattle.std.proofs.Common.{◌≡◌, ℕ, zero, suc, ◌+◌, ◌^◌, ◌≤◌, ◌<◌, List, [], ◌∷◌, ◌++◌, length, Bool, true, false, ◌&&◌, refl, sym, ap, ◌∙◌, subst, arith}
-use Rattle.std.specs.Prelude.{IsTrue, slice_get, ◌-ℤ◌}
+use Rattle.std.proofs.Common.{◌≡◌, ℕ, zero, suc, ◌+◌, ◌^◌, ◌<◌, List, length, Bool, true, false, ◌&&◌, refl, sym, ap, ◌∙◌, subst, arith}
+use Rattle.std.specs.Prelude.{IsTrue, ◌-ℤ◌}
 use Rattle.strm_num.specs.Words.{signed, is_less, truth_of}
 use Rattle.strm_num.proofs.Truths.{both_true}
 use Rattle.list_denotation.specs.declared.input.Input.{Input}
 use Rattle.list_denotation.specs.Denotation.{count_of, words_from, denotation}
 use Rattle.list_denotation.specs.Literals.{has_words, all_have_words, pipe_has_words}
-use Rattle.list_denotation.specs.Rows.{Rows, Ends, Row, firsts, single_rows}
+use Rattle.list_denotation.specs.Rows.{Rows, firsts, single_rows}
 use Rattle.list_denotation.specs.Scopes.{is_bound, all_bound}
 use Rattle.list_denotation.specs.Terms.{Term, Pipe, Array, Range, Unfold, Map, Filter, Take, Drop, TakeWhile, Scan, FlatMap, Zip}
 use Rattle.list_denotation.specs.Typing.{is_undivided, all_undivided}
 use Rattle.list_denotation.specs.Values.{Got, Is, with_value, choice, value}
 use Rattle.list_denotation.specs.Work.{row_count, stream_work}
-use Rattle.stateful_core.specs.CoreTerms.{CoreTerm, Lin, Actions}
+use Rattle.stateful_core.specs.CoreTerms.{CoreTerm, Lin}
 use Rattle.stateful_core.specs.WordValues.{or_zero, word_value, word_values}
 use Rattle.stateful_core.specs.CoreRows.{core_rows}
 use Rattle.stateful_core.specs.CoreWork.{core_work}
-use Rattle.stateful_core.specs.CoreShapes.{core_width, are_exact_actions}
-use Rattle.stateful_core.specs.StreamCores.{let_all, next_state, rows_asked, stream_width, core_at, is_chain}
+use Rattle.stateful_core.specs.CoreShapes.{are_exact_actions}
+use Rattle.stateful_core.specs.StreamCores.{next_state, rows_asked, stream_width, core_at, is_chain}
 use Rattle.stateful_core.proofs.CoreWidths.{width_at, wide_rows}
 use Rattle.stateful_core.proofs.ExactTurns.{exact_count, exact_lets, exact_state}
 use Rattle.stateful_core.proofs.LongerScopes.{length_word_values}

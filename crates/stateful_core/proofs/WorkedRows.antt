@@ -6,11 +6,9 @@ use Rattle.list_denotation.specs.declared.input.Input.TheVariants as input
 use Rattle.list_denotation.specs.declared.input.InputKind.TheVariants as kind
 use Rattle.list_denotation.specs.Counts.{depth, most_vars}
 use Rattle.list_denotation.specs.InputNames.{declared_inputs}
-use Rattle.list_denotation.specs.Terms.{Term, Lit, Truth, Var, Neg, Bin, Pipe, Array, Range, Unfold, Map, Filter, Take, Drop, TakeWhile, Scan, FlatMap, Zip, Print, Pipeline}
+use Rattle.list_denotation.specs.Terms.{Lit, Truth, Var, Neg, Bin, Pipe, Array, Range, Unfold, Map, Filter, Take, Drop, TakeWhile, Scan, FlatMap, Zip, Print, Pipeline}
 use Rattle.list_denotation.specs.Values.{Trap, Stuck}
 use Rattle.list_denotation.specs.Rows.{Rows, Ends, Row, End, Cut, Broken}
-use Rattle.list_denotation.specs.Denotation.{denotation}
-use Rattle.list_denotation.specs.Work.{stream_work}
 use Rattle.stateful_core.specs.CoreTerms as term
 use Rattle.stateful_core.specs.CoreTerms.{CoreTerm}
 use Rattle.stateful_core.specs.CoreRows.{core_rows}

@@ -1,7 +1,6 @@
 -- What the acts of a turn do, in a scope of bound words, with a state and local words.
 use Rattle.std.specs.Prelude.{ℕ, zero, suc, List, [], ◌∷◌, ◌++◌, slice_get, Option, Some, None}
 use Rattle.list_denotation.specs.declared.input.Input.{Input}
-use Rattle.list_denotation.specs.Terms.{Term}
 use Rattle.list_denotation.specs.Inputs.{items_in}
 use Rattle.list_denotation.specs.Values.{Fault, Stuck, Got, Is, Fails, choice, value}
 use Rattle.stateful_core.specs.CoreTerms.{Action, Let, Read, KeepIf, StopUnless, Update, When, Actions, Nil, Cons}

@@ -1,5 +1,5 @@
 -- A bound on the words of a core term, and so on the variables of its loops.
-use Rattle.std.specs.Prelude.{ℕ, ◌+◌, ◌*◌, Bool, true, false, ◌||◌, not, nat_lt, List, [], ◌∷◌, length, max, if◌then◌else◌}
+use Rattle.std.specs.Prelude.{ℕ, ◌+◌, ◌*◌, Bool, true, ◌||◌, not, nat_lt, List, [], ◌∷◌, length, max, if◌then◌else◌}
 use Rattle.std.specs.List.{list_all}
 use Rattle.list_denotation.specs.Terms.{Term, Lit, Truth, Var, Param, Len, Neg, Not, Bin, And, Or, If}
 use Rattle.list_denotation.specs.Leaves.{all_leaves}

@@ -1,5 +1,5 @@
 -- What is asked of a stream for its core: bound words, rows that are not wide, openings without division.
-use Rattle.std.specs.Prelude.{◌≡◌, ℕ, ◌+◌, ◌≤◌, Bool, true, ◌&&◌, IsTrue, List, length}
+use Rattle.std.specs.Prelude.{◌≡◌, ℕ, ◌+◌, ◌≤◌, Bool, ◌&&◌, IsTrue, List, length}
 use Rattle.list_denotation.specs.Terms.{Term, Len, Pipe, Array, Range, Unfold, Map, Filter, Take, Drop, TakeWhile, Scan, FlatMap, Zip}
 use Rattle.list_denotation.specs.Leaves.{all_leaves}
 use Rattle.list_denotation.specs.Scopes.{is_bound, all_bound}

@@ -1,5 +1,5 @@
 -- The core term of a stream, in a scope of so many bound words.
-use Rattle.std.specs.Prelude.{ℕ, zero, suc, ◌+◌, Bool, true, false, ◌&&◌, ◌||◌, List, [], ◌∷◌, length, if◌then◌else◌}
+use Rattle.std.specs.Prelude.{ℕ, zero, suc, ◌+◌, Bool, true, false, ◌||◌, List, [], ◌∷◌, length, if◌then◌else◌}
 use Rattle.list_denotation.specs.declared.expr.BinOp.TheVariants.{Add, Sub, Ne, Lt}
 use Rattle.list_denotation.specs.Terms as stream
 use Rattle.list_denotation.specs.Terms.{Term, Lit, Truth, Var, Len, Bin, If, Pipe}

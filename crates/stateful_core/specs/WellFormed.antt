@@ -1,5 +1,5 @@
 -- When a core term is well formed: one test of scopes, variables, updates, divisions, and the number of its words.
-use Rattle.std.specs.Prelude.{ℕ, ◌+◌, ◌^◌, Bool, true, false, ◌&&◌, ◌==◌, nat_lt, nat_le, List, length}
+use Rattle.std.specs.Prelude.{ℕ, ◌+◌, ◌^◌, Bool, true, ◌&&◌, ◌==◌, nat_lt, nat_le, List, length}
 use Rattle.list_denotation.specs.Terms.{Term}
 use Rattle.list_denotation.specs.Scopes.{is_bound, all_bound}
 use Rattle.list_denotation.specs.Typing.{is_undivided, all_undivided}
