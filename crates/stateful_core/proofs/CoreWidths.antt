@@ -1,5 +1,6 @@
 -- The scope and the width of the core of a stream, and the width of the rows of a core term.
 use Rattle.std.proofs.Common.{◌≡◌, ℕ, zero, suc, ◌+◌, List, [], ◌++◌, length, refl, arith, length-append}
+use Rattle.std.specs.Prelude.{IsTrue}
 use Rattle.list_denotation.specs.declared.input.Input.{Input}
 use Rattle.list_denotation.specs.Terms as stream
 use Rattle.list_denotation.specs.Terms.{Term, Pipe}
@@ -10,8 +11,8 @@ use Rattle.stateful_core.specs.WordValues.{word_values}
 use Rattle.stateful_core.specs.Actions.{ActResult, Continue, Skip, Halt, Break, run_acts}
 use Rattle.stateful_core.specs.Turns.{Turn, Gives, Skips, Stops, Breaks, after_turn, turn_rows, stage_rows}
 use Rattle.stateful_core.specs.CoreRows.{turn_end, core_rows}
-use Rattle.stateful_core.specs.CoreShapes.{core_scope, core_width, has_zip}
-use Rattle.stateful_core.specs.StreamCores.{stream_width, core_at, stream_has_zip}
+use Rattle.stateful_core.specs.CoreShapes.{core_scope, core_width, has_zip, is_flat}
+use Rattle.stateful_core.specs.StreamCores.{stream_width, core_at, is_chain, stream_has_zip}
 use Rattle.stateful_core.proofs.LongerScopes.{length_variables, length_word_values}
 use Rattle.stateful_core.proofs.StageRows.{AreWide}
 
@@ -53,6 +54,19 @@ zips_at (stream.TakeWhile of body) e = zips_at of e
 zips_at (stream.Scan of seed next) e = zips_at of e
 zips_at (stream.FlatMap of inner) e = rw (zips_at of e, zips_at inner (e + stream_width of)) refl
 zips_at (stream.Zip left right) e = refl
+
+pub flat_at : (p : Pipe) (e : ℕ) → IsTrue (is_chain p) → IsTrue (is_flat (core_at e p))
+flat_at (stream.Array k) e h = refl
+flat_at (stream.Range a b) e h = refl
+flat_at (stream.Unfold seed guard item next) e h = refl
+flat_at (stream.Map of body) e h = flat_at of e h
+flat_at (stream.Filter of body) e h = flat_at of e h
+flat_at (stream.Take of count) e h = flat_at of e h
+flat_at (stream.Drop of count) e h = flat_at of e h
+flat_at (stream.TakeWhile of body) e h = flat_at of e h
+flat_at (stream.Scan of seed next) e h = flat_at of e h
+flat_at (stream.FlatMap of inner) e h = absurd cc
+flat_at (stream.Zip left right) e h = absurd cc
 
 -- ---- rows
 

@@ -55,10 +55,10 @@ module _ (e : ℕ) where
           let straight = none_where_straight (is_written_straight (e + 0) (variables k (length es))) (length (variables k (length es))) (other_words (e + 0) (length (variables k (length es))) k (length es) (omega (arith, length_variables k (length es)))) in
           omega (arith, words_lets es (set_state (variables k (length es))), straight)
 
-  words_test : (act : Term → Action) → ((f : Term) → action_words e (act f) ≡ 0) → (k : ℕ) (f : Term) → actions_words e (test_acts act k f) ≤ 1
+  words_test : (act : Term → Action) → ((f : Term) → action_words e (act f) ≡ 1) → (k : ℕ) (f : Term) → actions_words e (test_acts act k f) ≤ 2
   words_test act is k f = by_form (is_undivided f)
     where
-      by_form : (t : Bool) → actions_words e (if t then Cons (act f) Nil else Cons (Let f) (Cons (act (Var k)) Nil)) ≤ 1
+      by_form : (t : Bool) → actions_words e (if t then Cons (act f) Nil else Cons (Let f) (Cons (act (Var k)) Nil)) ≤ 2
       by_form true = omega (arith, is f)
       by_form false = omega (arith, is (Var k))
 

@@ -40,7 +40,7 @@ pub fn step(alloc: Global, op: BinOp, k: u32) -> Result<Exprs, NoMemory>
     single(alloc, sum)
 }
 
-/// Appends a local word for each expression of a row.
+/// Appends a local word for each expression of a row. The one error is `NoMemory`.
 #[tactic(auto, using(crate::proofs::AppendedActs::let_steps))]
 pub fn push_lets(alloc: Global, es: &Exprs, acts: &mut Acts) -> Result<(), NoMemory>
     ensures { OnOk result (actions_of acts.new

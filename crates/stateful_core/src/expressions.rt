@@ -16,7 +16,7 @@ pub fn boxed(alloc: Global, e: Expr) -> Result<Box<Expr>, NoMemory>
     Ok(Box::new(alloc, e)?)
 }
 
-/// The same expression once more.
+/// The same expression once more. The one error is `NoMemory`.
 pub fn copy(alloc: Global, e: &Expr) -> Result<Box<Expr>, NoMemory>
     ensures { IfOk result (λ made. term_of made.value ≡ term_of e.now) }
 {
@@ -58,7 +58,7 @@ pub fn copy(alloc: Global, e: &Expr) -> Result<Box<Expr>, NoMemory>
     }
 }
 
-/// The same row once more.
+/// The same row once more. The one error is `NoMemory`.
 #[tactic(auto, using(crate::proofs::CopiedRows::copy_steps))]
 pub fn copies(alloc: Global, es: &Exprs) -> Result<Exprs, NoMemory>
     ensures { IfOk result (λ made. terms_of made ≡ terms_of es.now) }

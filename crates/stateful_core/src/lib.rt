@@ -14,6 +14,8 @@ mod expressions;
 mod program_core;
 mod stream_core;
 
+pub use acts::push_lets;
 pub use core_term::{Act, Acts, Core};
+pub use expressions::{boxed, copies, copy};
 pub use program_core::core_of;
 pub use stream_core::is_chain;

@@ -5,6 +5,7 @@ ghost use Rattle.list_denotation.specs.Copies.{pipe_of};
 ghost use Rattle.list_denotation.specs.Pipelines.{pipeline_of};
 ghost use Rattle.stateful_core.specs.CoreCopies.{core_term_of};
 ghost use Rattle.stateful_core.specs.CorePromise.{IsCoreOf};
+ghost use Rattle.stateful_core.specs.CoreShapes.{is_flat};
 ghost use Rattle.stateful_core.specs.Laws.{Laws};
 ghost use Rattle.stateful_core.specs.StreamCores.{is_chain};
 
@@ -28,7 +29,8 @@ fn laws_below()
 /// `NoMemory`.
 pub fn core_of(alloc: Global, p: &Program) -> Result<Core, NoMemory>
     requires { IsTrue (is_chain (pipe_of p.now.stream)) }
-    ensures { IfOk result (λ c. IsCoreOf (pipeline_of p.now) (core_term_of c)) }
+    ensures core { IfOk result (λ c. IsCoreOf (pipeline_of p.now) (core_term_of c)) }
+    ensures flat { IfOk result (λ c. IsTrue (is_flat (core_term_of c))) }
 {
     laws_below();
     Ok(Box::into_inner(core_at(alloc, &p.stream, 0)?))
