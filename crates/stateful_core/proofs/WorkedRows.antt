@@ -174,8 +174,8 @@ names_its_array = refl
 numbers_are_words : core_has_words squares_core ≡ true
 numbers_are_words = refl
 
--- the index, an item, a truth and a square, and the row of each of the three terms; 18 for expressions of depth 3, and 40
-its_words : most_words squares_core (depth squares_printed) ≡ 66
+-- the index, an item, a truth, its test and a square, and the row of each of the three terms; 18 for expressions of depth 3, and 40
+its_words : most_words squares_core (depth squares_printed) ≡ 67
 its_words = refl
 
 its_variables : most_vars squares_printed ≡ 154

@@ -74,7 +74,7 @@ abbrev pub is_written_straight : ℕ → List Term → Bool
 is_written_straight first es = list_all (all_leaves (is_other_leaf first (length es))) es
 
 -- the words that acts add to those of a scope and a state: the local words, one for each word of an update that has to be
--- computed aside, and one for each test
+-- computed aside, one for each test, and two for each choice of acts
 module _ (scope : ℕ) where
   abbrev mutual
     pub action_words : Action → ℕ
@@ -83,7 +83,7 @@ module _ (scope : ℕ) where
     action_words (KeepIf e) = 1
     action_words (StopUnless e) = 1
     action_words (Update k es) = if is_written_straight (scope + k) es then 0 else length es
-    action_words (When e a b) = actions_words a + actions_words b + 1
+    action_words (When e a b) = actions_words a + actions_words b + 2
 
     pub actions_words : Actions → ℕ
     actions_words Nil = 0
