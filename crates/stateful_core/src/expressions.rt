@@ -89,7 +89,7 @@ fn is_division(op: BinOp) -> bool
     matches!(op, BinOp::Div | BinOp::Rem)
 }
 
-/// Whether no division stands in the expression.
+/// Whether no division stands in the expression. It takes no memory.
 pub fn is_undivided(e: &Expr) -> bool
     ensures { result ≡ is_undivided (term_of e.now) }
 {

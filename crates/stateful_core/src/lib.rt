@@ -16,6 +16,6 @@ mod stream_core;
 
 pub use acts::push_lets;
 pub use core_term::{Act, Acts, Core};
-pub use expressions::{boxed, copies, copy};
+pub use expressions::{boxed, copies, copy, is_undivided};
 pub use program_core::core_of;
 pub use stream_core::is_chain;
