@@ -9,19 +9,22 @@ use Rattle.list_denotation.specs.Literals.{has_words}
 use Rattle.list_denotation.specs.Terms.{Term, Lit, Truth, Var, Param, Len}
 use Rattle.loop_ir.specs.Constants.{is_word_leaf, operand_has_words, test_has_words, block_has_words}
 use Rattle.loop_ir.specs.DeclaredNames.{Names, is_named_leaf, operand_names, test_names, block_names}
-use Rattle.loop_ir.specs.Statements.{Const, Block, Nil, join}
+use Rattle.loop_ir.specs.Statements.{Const, Set, Block, Nil, Cons, join}
 use Rattle.loop_ir.proofs.JoinedBlocks.{names_joined, words_joined}
 use Rattle.state_alloc.specs.Layouts.{IsLaidOut}
-use Rattle.expr_lower.specs.Contract.{Scope, top_of, value_block, condition_block, condition_test, IsLowerable, GivesValue, GivesTruth, MayUse, NamesOnly, TestNamesOnly, PutsValue, TellsTruth}
-use Rattle.expr_lower.specs.Costs.{temps_of}
+use Rattle.expr_lower.specs.Contract.{Scope, top_of, value_block, condition_block, condition_test, operand_statements, operand_word, IsLowerable, GivesValue, GivesTruth, GivesWord, MayUse, NamesOnly, TestNamesOnly, WordNamesOnly, PutsValue, TellsTruth, YieldsWord, StandsFor}
+use Rattle.expr_lower.specs.Costs.{is_plain, temps_of}
+use Rattle.expr_lower.specs.Lowering.{operand_block, operand_in, into}
+use Rattle.expr_lower.specs.PlainWords.{plain_word}
 use Rattle.expr_lower.specs.Laws.{Laws}
 use Rattle.expr_lower.specs.Scopes.{EachLeaf, IsWordLeaf, WordsInPlace, MayNameLeaf, MayNameWords}
 use Rattle.expr_lower.proofs.Disjointness.{unread_disjoint}
 use Rattle.expr_lower.proofs.Leaves.{both_leaves, each_leaf, tested_leaves, word_leaves}
 use Rattle.expr_lower.proofs.Operands.{Ready}
-use Rattle.expr_lower.proofs.Lowers.{value_comes, condition_comes_true}
-use Rattle.expr_lower.proofs.LeafTests.{leaf_operand, value_in, test_in}
-use Rattle.expr_lower.proofs.Costs.{few_statements, no_loops, few_in_condition, no_loops_in_condition}
+use Rattle.expr_lower.proofs.Lowers.{value_comes, condition_comes_true, operand_comes_to_word}
+use Rattle.expr_lower.proofs.PlainValues.{plain_value, plain_lowered, value_plain, plain_holds, plain_is_word}
+use Rattle.expr_lower.proofs.LeafTests.{leaf_operand, value_in, test_in, operand_statements_in, operand_word_in}
+use Rattle.expr_lower.proofs.Costs.{few_statements, no_loops, few_in_condition, no_loops_in_condition, few_in_operand, no_loops_in_operand}
 
 -- ---- names
 
@@ -93,6 +96,31 @@ module _ (laws : Laws) (scope : Scope) (e : Term) (target : ℕ) (has : IsTrue (
       refl (λ v low high. refl) enough (word_leaves e has) (constant_leaves scope.rows e (word_leaves e has)) in
       (parts.block, parts.test)
 
+  operand_leaves : (may : Names) → MayUse may scope e target → IsTrue (block_names may (operand_statements scope e target)) × IsTrue (operand_names may (operand_word scope e target))
+  operand_leaves may used =
+      let leaves = named_leaves may scope.rows e used.words used.inputs in (
+        operand_statements_in laws (is_named_leaf may) (λ c word. refl) (names_joined may) scope.rows e target scope.first_temp (top_of scope)
+            used.at_target used.temporaries enough (word_leaves e has) leaves,
+        operand_word_in laws (is_named_leaf may) (λ c word. refl) (names_joined may) scope.rows e target scope.first_temp (top_of scope)
+            used.at_target used.temporaries enough (word_leaves e has) leaves,
+      )
+
+  pub operand_statement_names : NamesOnly scope e target (operand_statements scope e target)
+  operand_statement_names may used = (operand_leaves may used).0
+
+  pub operand_word_names : WordNamesOnly scope e target (operand_word scope e target)
+  operand_word_names may used = (operand_leaves may used).1
+
+  pub operand_constants : IsTrue (block_has_words (operand_statements scope e target))
+  operand_constants =
+      operand_statements_in laws is_word_leaf word_constant words_joined scope.rows e target scope.first_temp (top_of scope)
+      refl (λ v low high. refl) enough (word_leaves e has) (constant_leaves scope.rows e (word_leaves e has))
+
+  pub operand_word_constants : IsTrue (operand_has_words (operand_word scope e target))
+  operand_word_constants =
+      operand_word_in laws is_word_leaf word_constant words_joined scope.rows e target scope.first_temp (top_of scope)
+      refl (λ v low high. refl) enough (word_leaves e has) (constant_leaves scope.rows e (word_leaves e has))
+
 -- ---- what the statements do
 
 module _ (laws : Laws) (scope : Scope) (next : ℕ) (e : Term) (target : ℕ) (laid_out : IsLaidOut scope.rows scope.first_temp scope.temps next) (can : IsLowerable scope e target) where
@@ -134,6 +162,41 @@ module _ (laws : Laws) (scope : Scope) (next : ℕ) (e : Term) (target : ℕ) (l
     constants = (condition_constants laws scope e target can.words can.temporaries).0;
     test_constants = (condition_constants laws scope e target can.words can.temporaries).1;
   }
+
+  pub gives_word : GivesWord scope e target (operand_statements scope e target) (operand_word scope e target)
+  gives_word inputs words env inside within place =
+      operand_comes_to_word laws scope.rows words inputs e target scope.first_temp (top_of scope) env (ready inputs words env inside within place)
+
+  pub yields_word : YieldsWord scope e target (operand_statements scope e target) (operand_word scope e target)
+  yields_word = record {
+    gives = gives_word;
+    names = operand_statement_names laws scope e target can.words can.temporaries;
+    word_names = operand_word_names laws scope e target can.words can.temporaries;
+    few = few_in_operand laws scope.rows e target scope.first_temp;
+    no_loops = no_loops_in_operand laws scope.rows e target scope.first_temp;
+    constants = operand_constants laws scope e target can.words can.temporaries;
+    word_constants = operand_word_constants laws scope e target can.words can.temporaries;
+  }
+
+-- ---- plain expressions
+
+module _ (scope : Scope) (e : Term) (target : ℕ) (plain : IsTrue (is_plain e)) where
+  pub plain_assignment : value_block scope e target ≡ Cons (Set target (plain_word scope.rows e)) Nil
+  plain_assignment = ap (λ l. into l target) (plain_lowered scope.rows e target scope.first_temp plain)
+
+  pub plain_statements : operand_statements scope e target ≡ Nil
+  plain_statements = ap (λ l. operand_block l target) (plain_lowered scope.rows e target scope.first_temp plain)
+
+  pub plain_operand : operand_word scope e target ≡ plain_word scope.rows e
+  plain_operand = ap (λ l. operand_in l.form target) (plain_lowered scope.rows e target scope.first_temp plain)
+
+pub plain_stands : (laws : Laws) (rows words : List ℕ) (inputs : List Input) (env : List ℕ) (e : Term) → IsTrue (is_plain e) → IsTrue (has_words e) → WordsInPlace rows words inputs env e → StandsFor words inputs env e (plain_word rows e)
+plain_stands laws rows words inputs env e plain has in_place = record {
+  x = plain_value e words inputs;
+  value = value_plain e words inputs plain;
+  word = plain_is_word rows words inputs e env plain (word_leaves e has) in_place;
+  is = plain_holds rows words inputs laws e env plain in_place;
+}
 
 -- ---- of what the code gives
 

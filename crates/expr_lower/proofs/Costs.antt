@@ -154,6 +154,13 @@ few_in_condition laws rows e v t = omega (arith, block_within block_count 1 (cou
 pub no_loops_in_condition : (laws : Laws) (rows : List ℕ) (e : Term) (v t : ℕ) → block_loops (lowered_test rows e v t).block ≡ 0
 no_loops_in_condition laws rows e v t = omega (arith, block_within block_loops 0 (loops_size laws) (lowered_term rows e v t) v, no_loops laws rows e v t)
 
+-- and of an operand
+pub few_in_operand : (laws : Laws) (rows : List ℕ) (e : Term) (v t : ℕ) → block_count (operand_block (lowered_term rows e v t) v) ≤ cost e
+few_in_operand laws rows e v t = omega (arith, operand_within block_count 1 (count_size laws) (lowered_term rows e v t) v, few_statements laws rows e v t)
+
+pub no_loops_in_operand : (laws : Laws) (rows : List ℕ) (e : Term) (v t : ℕ) → block_loops (operand_block (lowered_term rows e v t) v) ≡ 0
+no_loops_in_operand laws rows e v t = omega (arith, operand_within block_loops 0 (loops_size laws) (lowered_term rows e v t) v, no_loops laws rows e v t)
+
 -- the cost of an operation is at most that of a division
 operation_within : (o : BinOp) → operation_cost o ≤ 9
 operation_within sign.Add = omega arith

@@ -353,3 +353,10 @@ module _ (laws : Laws) (passes : Operand → Bool) (constants : (c : ℕ) → Is
       -- those of a condition, and its test
       pub test_in : InCondition (condition_of (lowered_term rows e v t) v)
       test_in = condition_of_in (lowered_term rows e v t) v parts_in at
+
+      -- those of an operand, and its word
+      pub operand_statements_in : InBlock (operand_block (lowered_term rows e v t) v)
+      operand_statements_in = operand_block_in (lowered_term rows e v t) v parts_in (λ none. at)
+
+      pub operand_word_in : InOperand (operand_in (lowered_term rows e v t).form v)
+      operand_word_in = operand_in_in (lowered_term rows e v t).form v parts_in.form (λ none. at)

@@ -20,12 +20,13 @@ use Rattle.expr_phrases.specs.Simple.{constant_of, is_simple}
 use Rattle.expr_lower.specs.Lowering.{Lowered, Form, AWord, ATest, InTarget, is_word, as_word, in_target, operand_block, operand_in, condition_in, into, division_operand_block, division_operand_in, lowered_minus, lowered_arithmetic, lowered_comparison, lowered_division, lowered_operation, is_empty, connective_form, lowered_connective, lowered_term, lowered_test}
 use Rattle.expr_lower.specs.Costs.{is_plain, is_direct, temps_of}
 use Rattle.expr_lower.specs.Laws.{Laws}
+use Rattle.expr_lower.specs.PlainWords.{arithmetic_operator}
 use Rattle.expr_lower.specs.Scopes.{EachLeaf, IsWordLeaf, WordsInPlace}
 use Rattle.expr_lower.proofs.Disjointness.{IsDisjoint, disjoint_right}
-use Rattle.expr_lower.proofs.Effects.{IsWordValue, then_comes, maps, nothing_comes, assigns_comes, set_comes, first_comes, second_comes, set_truth_comes}
+use Rattle.expr_lower.proofs.Effects.{IsWordValue, then_comes, maps, holds_too, nothing_comes, assigns_comes, set_comes, first_comes, second_comes, set_truth_comes}
 use Rattle.expr_lower.proofs.Plain.{plain_form}
-use Rattle.expr_lower.proofs.PlainValues.{arithmetic_operator, arithmetic_value, arithmetic_word, truth_word}
-use Rattle.expr_lower.proofs.ValueUses.{HasTruth, IsFound, IsCondition, still_in_place, condition_comes, target_comes}
+use Rattle.expr_lower.proofs.PlainValues.{arithmetic_value, arithmetic_word, truth_word}
+use Rattle.expr_lower.proofs.ValueUses.{HasTruth, IsFound, IsOperand, IsCondition, still_in_place, operand_comes, condition_comes, target_comes}
 use Rattle.expr_lower.proofs.Operands.{Ready, still_ready, IsLowered, IsKeptOperand, BothAre, plain_comes, left_comes, division_operand_comes, right_comes, division_right_comes, operands_come}
 
 -- ---- operations on words
@@ -431,3 +432,11 @@ module _ (laws : Laws) (rows words : List ℕ) (inputs : List Input) where
   -- and those of a condition tell whether it is true
   pub condition_comes_true : (e : Term) (v t top : ℕ) (env : List ℕ) → Ready rows words inputs e v t top env → ComesTo inputs (lowered_term rows e v t).block env v t top (IsCondition rows words inputs (part_test e v t)) (value e words inputs)
   condition_comes_true e v t top env ready = part_condition e v t top env ready (lowers e v t top env ready)
+
+  -- and those of an operand lead to its word
+  pub operand_comes_to_word : (e : Term) (v t top : ℕ) (env : List ℕ) → Ready rows words inputs e v t top env → ComesTo inputs (operand_block (lowered_term rows e v t) v) env v t top (λ x env'. operand_value inputs (operand_in (lowered_term rows e v t).form v) env' ≡ Is x) (value e words inputs)
+  operand_comes_to_word e v t top env ready =
+      let l : Lowered = lowered_term rows e v t in
+      holds_too inputs (operand_block l v) env v t top (IsOperand rows words inputs e (operand_in l.form v) v) (λ x env'. operand_value inputs (operand_in l.form v) env' ≡ Is x) (value e words inputs)
+      (operand_comes rows words inputs e l.block l.form v t top env (value e words inputs) ready.inside (lowers e v t top env ready))
+      (λ x env' word kept held. held env' (still_in_place rows words inputs e v t top env env' ready.apart kept ready.in_place) refl)

@@ -12,11 +12,12 @@ use Rattle.expr_phrases.specs.Simple.{literal_of, negated_constant, constant_of,
 use Rattle.expr_lower.specs.Lowering.{Lowered, as_word, operand_block, operand_in, division_operand_block, division_operand_in, into, lowered_term}
 use Rattle.expr_lower.specs.Costs.{is_plain, temps_of}
 use Rattle.expr_lower.specs.Laws.{Laws}
+use Rattle.expr_lower.specs.PlainWords.{plain_word}
 use Rattle.expr_lower.specs.Scopes.{EachLeaf, IsWordLeaf, IsOutside, WordsInPlace}
 use Rattle.expr_lower.proofs.Disjointness.{IsDisjoint, not_outside, outside_more}
 use Rattle.expr_lower.proofs.Effects.{kept_right, kept_twice, then_comes, holds_too, nothing_comes}
 use Rattle.expr_lower.proofs.Plain.{simple_plain}
-use Rattle.expr_lower.proofs.PlainValues.{plain_word, plain_value, plain_lowered, value_plain, plain_holds, plain_is_word}
+use Rattle.expr_lower.proofs.PlainValues.{plain_value, plain_lowered, value_plain, plain_holds, plain_is_word}
 use Rattle.expr_lower.proofs.ValueUses.{IsFound, IsOperand, still_in_place, operand_comes, target_comes}
 
 -- the value of a constant is that constant

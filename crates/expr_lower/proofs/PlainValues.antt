@@ -11,20 +11,13 @@ use Rattle.list_denotation.specs.Inputs.{items_in, word_in}
 use Rattle.list_denotation.specs.Terms as term
 use Rattle.list_denotation.specs.Terms.{Term}
 use Rattle.list_denotation.specs.Values.{Is, operation_of, value}
-use Rattle.loop_ir.specs.declared.syntax.WOp.{WOp}
-use Rattle.loop_ir.specs.declared.syntax.WOp.TheVariants as op
-use Rattle.loop_ir.specs.Statements.{Operand, Const, Var, Len, Int, Bin}
+use Rattle.loop_ir.specs.Statements.{Operand, Bin}
 use Rattle.loop_ir.specs.Meaning.{operand_value, word_operation}
-use Rattle.expr_phrases.specs.Phrases.{minus}
 use Rattle.expr_lower.specs.Laws.{Laws}
 use Rattle.expr_lower.specs.Lowering.{as_word, lowered_minus, lowered_operation, lowered_term}
 use Rattle.expr_lower.specs.Costs.{is_arithmetic, is_plain}
+use Rattle.expr_lower.specs.PlainWords.{arithmetic_operator, plain_word}
 use Rattle.expr_lower.specs.Scopes.{EachLeaf, IsWordLeaf, WordsInPlace}
-
-abbrev pub arithmetic_operator : BinOp → WOp
-arithmetic_operator sign.Sub = op.Sub
-arithmetic_operator sign.Mul = op.Mul
-arithmetic_operator _ = op.Add
 
 abbrev pub arithmetic_value : BinOp → ℕ → ℕ → ℕ
 arithmetic_value sign.Sub x y = difference_of x y
@@ -36,17 +29,7 @@ arithmetic_word sign.Sub x y = mod-lt (x + (2 ^ 64 - y)) (omega arith)
 arithmetic_word sign.Mul x y = mod-lt (x * y) (omega arith)
 arithmetic_word _ x y = mod-lt (x + y) (omega arith)
 
--- ---- the word of a plain expression. The last case of these stands for what isn't plain
-
-abbrev pub plain_word : List ℕ → Term → Operand
-plain_word rows (term.Lit c) = Const c
-plain_word rows (term.Truth b) = Const (truth_of b)
-plain_word rows (term.Var k) = Var (slice_index rows k)
-plain_word rows (term.Param k) = Int k
-plain_word rows (term.Len k) = Len k
-plain_word rows (term.Neg a) = minus (plain_word rows a)
-plain_word rows (term.Bin o a b) = Bin (arithmetic_operator o) (plain_word rows a) (plain_word rows b)
-plain_word rows _ = Const 0
+-- ---- the value of a plain expression. The last case stands for what isn't plain
 
 abbrev pub plain_value : Term → List ℕ → List Input → ℕ
 plain_value (term.Lit c) words inputs = c

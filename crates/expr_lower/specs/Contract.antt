@@ -1,5 +1,6 @@
 -- What is promised of the statements of an expression.
 use Rattle.std.specs.Prelude.{◌≡◌, ◌≢◌, ℕ, ◌+◌, ◌<◌, ◌≤◌, ◌^◌, Bool, true, false, List, [], length, slice_index, IsTrue}
+use Rattle.strm_num.specs.Words.{IsWord}
 use Rattle.list_denotation.specs.declared.input.Input.{Input}
 use Rattle.list_denotation.specs.InputNames.{names_inputs}
 use Rattle.list_denotation.specs.Literals.{has_words}
@@ -7,14 +8,14 @@ use Rattle.list_denotation.specs.Scopes.{is_bound}
 use Rattle.list_denotation.specs.Terms.{Term}
 use Rattle.list_denotation.specs.Values.{Got, Is, Fails, choice, value}
 use Rattle.list_denotation.specs.Observation.{Failed}
-use Rattle.loop_ir.specs.Constants.{test_has_words, block_has_words}
+use Rattle.loop_ir.specs.Constants.{operand_has_words, test_has_words, block_has_words}
 use Rattle.loop_ir.specs.Counts.{block_count, block_loops}
-use Rattle.loop_ir.specs.DeclaredNames.{Names, test_names, block_names}
-use Rattle.loop_ir.specs.Statements.{Test, Block}
-use Rattle.loop_ir.specs.Meaning.{Runs, Over, test_value, run}
+use Rattle.loop_ir.specs.DeclaredNames.{Names, operand_names, test_names, block_names}
+use Rattle.loop_ir.specs.Statements.{Operand, Test, Block}
+use Rattle.loop_ir.specs.Meaning.{Runs, Over, operand_value, test_value, run}
 use Rattle.state_alloc.specs.declared.slots.Slots.{Slots}
 use Rattle.expr_lower.specs.Costs.{cost, temps_of}
-use Rattle.expr_lower.specs.Lowering.{lowered_into, lowered_test}
+use Rattle.expr_lower.specs.Lowering.{operand_block, operand_in, lowered_term, lowered_into, lowered_test}
 use Rattle.expr_lower.specs.Scopes.{IsOutside, IsUnread, WordsInPlace, MayNameWords}
 
 -- where the words of a scope stand, and which variables are temporaries: so many from `first_temp` on
@@ -39,6 +40,13 @@ condition_block scope e target = (lowered_test scope.rows e target scope.first_t
 
 abbrev pub condition_test : Scope → Term → ℕ → Test
 condition_test scope e target = (lowered_test scope.rows e target scope.first_temp).test
+
+-- an expression as an operand: the statements, and the word that has its value once they have run
+abbrev pub operand_statements : Scope → Term → ℕ → Block
+operand_statements scope e scratch = operand_block (lowered_term scope.rows e scratch scope.first_temp) scratch
+
+abbrev pub operand_word : Scope → Term → ℕ → Operand
+operand_word scope e scratch = operand_in (lowered_term scope.rows e scratch scope.first_temp).form scratch
 
 -- ---- what is asked for
 
@@ -101,6 +109,11 @@ abbrev pub GivesTruth : Scope → Term → ℕ → Block → Test → Type 0
 GivesTruth scope e target block test =
     ComesToValue (λ inputs x env'. test_value inputs test env' ≡ Is (is_true x)) scope e target block
 
+-- the word has the value then
+abbrev pub GivesWord : Scope → Term → ℕ → Block → Operand → Type 0
+GivesWord scope e scratch block word =
+    ComesToValue (λ inputs x env'. operand_value inputs word env' ≡ Is x) scope e scratch block
+
 -- ---- what they name
 
 -- whatever the expression may name: the target, the temporaries, the variables of the words that it reads, and the inputs
@@ -117,6 +130,9 @@ NamesOnly scope e target block = (may : Names) → MayUse may scope e target →
 
 abbrev pub TestNamesOnly : Scope → Term → ℕ → Test → Type 0
 TestNamesOnly scope e target test = (may : Names) → MayUse may scope e target → IsTrue (test_names may test)
+
+abbrev pub WordNamesOnly : Scope → Term → ℕ → Operand → Type 0
+WordNamesOnly scope e scratch word = (may : Names) → MayUse may scope e scratch → IsTrue (operand_names may word)
 
 -- ---- all of it
 
@@ -137,3 +153,20 @@ pub record TellsTruth (scope : Scope) (e : Term) (target : ℕ) (block : Block) 
   pub no_loops : block_loops block ≡ 0
   pub constants : IsTrue (block_has_words block)
   pub test_constants : IsTrue (test_has_words test)
+
+-- the statements, and then the word, have the value of the expression
+pub record YieldsWord (scope : Scope) (e : Term) (scratch : ℕ) (block : Block) (word : Operand) : Type 0 where
+  pub gives : GivesWord scope e scratch block word
+  pub names : NamesOnly scope e scratch block
+  pub word_names : WordNamesOnly scope e scratch word
+  pub few : block_count block ≤ cost e
+  pub no_loops : block_loops block ≡ 0
+  pub constants : IsTrue (block_has_words block)
+  pub word_constants : IsTrue (operand_has_words word)
+
+-- the expression has a value, which is a word, and this operand has it as the variables are
+pub record StandsFor (words : List ℕ) (inputs : List Input) (env : List ℕ) (e : Term) (operand : Operand) : Type 0 where
+  pub x : ℕ
+  pub value : value e words inputs ≡ Is x
+  pub word : IsWord x
+  pub is : operand_value inputs operand env ≡ Is x

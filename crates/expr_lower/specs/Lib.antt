@@ -1,5 +1,6 @@
 pub mod Lowering
 pub mod Costs
+pub mod PlainWords
 pub mod Scopes
 pub mod FormCopies
 pub mod Contract

@@ -1,15 +1,18 @@
 //! Laws of the definitions. These functions do nothing: their contracts are the laws.
 
-ghost use Rattle.std.specs.Prelude.{ℕ, ◌<◌, ◌≤◌, ◌*◌, List, IsTrue, length, slice_index};
+ghost use Rattle.std.specs.Prelude.{◌≡◌, ℕ, ◌<◌, ◌≤◌, ◌*◌, List, IsTrue, length, slice_index};
 ghost use Rattle.list_denotation.specs.declared.input.Input.{Input};
 ghost use Rattle.list_denotation.specs.Counts.{term_nodes, term_depth};
+ghost use Rattle.list_denotation.specs.Literals.{has_words};
 ghost use Rattle.list_denotation.specs.Scopes.{is_bound};
 ghost use Rattle.list_denotation.specs.Terms.{Term};
 ghost use Rattle.loop_ir.specs.DeclaredNames.{Names};
+ghost use Rattle.loop_ir.specs.Statements.{Set, Nil, Cons};
 ghost use Rattle.state_alloc.specs.Layouts.{IsLaidOut};
-ghost use Rattle.expr_lower.specs.Contract.{Scope, value_block, condition_block, condition_test, IsTarget, IsLowerable, PutsValue, TellsTruth};
-ghost use Rattle.expr_lower.specs.Costs.{cost, temps_of};
+ghost use Rattle.expr_lower.specs.Contract.{Scope, value_block, condition_block, condition_test, operand_statements, operand_word, IsTarget, IsLowerable, PutsValue, TellsTruth, YieldsWord, StandsFor};
+ghost use Rattle.expr_lower.specs.Costs.{cost, is_plain, temps_of};
 ghost use Rattle.expr_lower.specs.Laws.{Laws};
+ghost use Rattle.expr_lower.specs.PlainWords.{plain_word};
 ghost use Rattle.expr_lower.specs.Scopes.{WordsInPlace, ScopeInPlace, MayNameWords};
 
 use expr_phrases::{
@@ -35,8 +38,9 @@ pub fn temporaries_are_few()
     ensures { (e : Term) → temps_of e ≤ term_depth e }
 {}
 
-/// The statements of an expression over words that are laid out put its value into the target, and
-/// those of a condition tell whether it is true; or they return 1 exactly where it traps. They have
+/// The statements of an expression over words that are laid out put its value into the target, those
+/// of a condition tell whether it is true, and those of an operand leave its value in a word; or
+/// they return 1 exactly where it traps. They have
 /// no loop, and at most as many statements as the expression's cost, name nothing but what it
 /// names, the target and the temporaries, and their constants are words.
 pub fn expressions_are_lowered()
@@ -49,6 +53,11 @@ pub fn expressions_are_lowered()
         → IsLowerable scope e scratch
         → TellsTruth scope e scratch (condition_block scope e scratch)
         (condition_test scope e scratch) }
+    ensures operands { (scope : Scope) (next : ℕ) (e : Term) (scratch : ℕ)
+        → IsLaidOut scope.rows scope.first_temp scope.temps next
+        → IsLowerable scope e scratch
+        → YieldsWord scope e scratch (operand_statements scope e scratch)
+        (operand_word scope e scratch) }
 {
     laws_below();
 }
@@ -68,3 +77,22 @@ pub fn scopes_hold_expressions()
         → ((k : ℕ) → k < length rows → IsTrue (may.var (slice_index rows k)))
         → MayNameWords may rows e }
 {}
+
+/// A plain expression needs no temporary and no statements but the assignment of one word, which is
+/// its operand's word too. In each state in which the words that it reads stand in their variables,
+/// this word has the expression's value, which is a word. So the variable of a word that it reads may
+/// be set to it.
+pub fn plain_expressions_are_words()
+    ensures values { (scope : Scope) (e : Term) (target : ℕ) → IsTrue (is_plain e)
+        → value_block scope e target ≡ Cons (Set target (plain_word scope.rows e)) Nil }
+    ensures operands { (scope : Scope) (e : Term) (scratch : ℕ) → IsTrue (is_plain e)
+        → operand_statements scope e scratch ≡ Nil }
+    ensures words { (scope : Scope) (e : Term) (scratch : ℕ) → IsTrue (is_plain e)
+        → operand_word scope e scratch ≡ plain_word scope.rows e }
+    ensures temporaries { (e : Term) → IsTrue (is_plain e) → temps_of e ≡ 0 }
+    ensures gives { (rows words : List ℕ) (inputs : List Input) (env : List ℕ) (e : Term)
+        → IsTrue (is_plain e) → IsTrue (has_words e) → WordsInPlace rows words inputs env e
+        → StandsFor words inputs env e (plain_word rows e) }
+{
+    laws_below();
+}

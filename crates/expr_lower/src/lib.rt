@@ -20,7 +20,8 @@ mod statements;
 mod temporaries;
 
 pub use laws::{
-    costs_are_few, expressions_are_lowered, scopes_hold_expressions, temporaries_are_few,
+    costs_are_few, expressions_are_lowered, plain_expressions_are_words, scopes_hold_expressions,
+    temporaries_are_few,
 };
-pub use statements::{lower, lower_into, lower_test};
-pub use temporaries::temps_of;
+pub use statements::{lower, lower_into, lower_operand, lower_test};
+pub use temporaries::{is_plain, temps_of};

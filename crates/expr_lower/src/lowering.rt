@@ -3,15 +3,15 @@
 ghost use Rattle.std.specs.Prelude.{◌≡◌, ℕ, ◌+◌, ◌<◌, ◌^◌, max, length, slice_index, EachIndex, IfOk, OnOk};
 ghost use Rattle.list_denotation.specs.Copies.{term_of};
 ghost use Rattle.list_denotation.specs.Terms.{Bin};
-ghost use Rattle.loop_ir.specs.StatementCopies.{test_of};
-ghost use Rattle.expr_lower.specs.Lowering.{lowered_connective, lowered_choice, lowered_term, lowered_into, lowered_test};
+ghost use Rattle.loop_ir.specs.StatementCopies.{operand_of, test_of};
+ghost use Rattle.expr_lower.specs.Lowering.{operand_block, operand_in, lowered_connective, lowered_choice, lowered_term, lowered_into, lowered_test};
 ghost use Rattle.expr_lower.specs.Costs.{temps_of};
 ghost use Rattle.expr_lower.specs.Scopes.{EachLeaf, IsWordLeaf, IsBoundLeaf};
 ghost use Rattle.expr_phrases.specs.PhraseCopies.{connective_of, Appends};
 ghost use Rattle.expr_lower.specs.FormCopies.{form_of};
 
 use crate::connectives::connected;
-use crate::forms::{Form, condition, put, word};
+use crate::forms::{Form, condition, operand, put, word};
 use crate::operations::{Part, keep, negated, operation};
 use expr_phrases::{Connective, opposite};
 use list_denotation::{BinOp, Expr, Words};
@@ -211,6 +211,30 @@ pub fn lower_condition(
 {
     let form = lower_form(alloc, e, rows, frame, block)?;
     condition(alloc, form, frame.target)
+}
+
+/// Appends the statements of `e`, and gives the word that has its value then.
+#[tactic(auto, using(crate::proofs::Appends::push_steps))]
+pub fn lower_word(
+    alloc: Global,
+    e: &Expr,
+    rows: &Words,
+    frame: Frame,
+    block: &mut Stmts,
+) -> Result<Box<W>, NoMemory>
+    requires bound { EachLeaf (IsBoundLeaf (length rows.now)) (term_of e.now) }
+    requires variables { EachIndex rows.now (λ i. slice_index rows.now i < 2 ^ 32) }
+    requires few { frame.first_temp + temps_of (term_of e.now) < 2 ^ 32 }
+    ensures block { OnOk result (Appends block.old block.new
+        (operand_block (lowered_term rows.now (term_of e.now) frame.target frame.first_temp)
+        frame.target)) }
+    ensures word { IfOk result (λ w. operand_of w.value
+        ≡ operand_in (lowered_term rows.now (term_of e.now) frame.target frame.first_temp).form
+        frame.target) }
+    ensures words { OnOk result (EachLeaf IsWordLeaf (term_of e.now)) }
+{
+    let form = lower_form(alloc, e, rows, frame, block)?;
+    operand(alloc, form, frame.target, block)
 }
 
 /// Appends the statements that put the value of `e` into the target.

@@ -4,17 +4,17 @@ ghost use Rattle.std.specs.Prelude.{◌≡◌, ◌≤◌, length, IsTrue, IfOk, 
 ghost use Rattle.list_denotation.specs.Copies.{term_of};
 ghost use Rattle.list_denotation.specs.Literals.{has_words};
 ghost use Rattle.list_denotation.specs.Scopes.{is_bound};
-ghost use Rattle.loop_ir.specs.Constants.{test_has_words, block_has_words};
+ghost use Rattle.loop_ir.specs.Constants.{operand_has_words, test_has_words, block_has_words};
 ghost use Rattle.loop_ir.specs.Counts.{block_count, block_loops};
-ghost use Rattle.loop_ir.specs.StatementCopies.{test_of, block_of};
-ghost use Rattle.expr_lower.specs.Contract.{scope_of, value_block, condition_block, condition_test, IsTarget, GivesValue, GivesTruth, NamesOnly, TestNamesOnly};
+ghost use Rattle.loop_ir.specs.StatementCopies.{operand_of, test_of, block_of};
+ghost use Rattle.expr_lower.specs.Contract.{scope_of, value_block, condition_block, condition_test, operand_statements, operand_word, IsTarget, GivesValue, GivesTruth, GivesWord, NamesOnly, TestNamesOnly, WordNamesOnly};
 ghost use Rattle.expr_lower.specs.Costs.{cost, temps_of};
 ghost use Rattle.expr_phrases.specs.PhraseCopies.{Appends};
 
 use crate::laws::laws_below;
-use crate::lowering::{Frame, lower_condition, put_value};
+use crate::lowering::{Frame, lower_condition, lower_word, put_value};
 use list_denotation::Expr;
-use loop_ir::{Stmts, T};
+use loop_ir::{Stmts, T, W};
 use state_alloc::Slots;
 use std::alloc::Global;
 use strm_num::NoMemory;
@@ -107,6 +107,56 @@ pub fn lower_test(
         first_temp: slots.first_temp,
     };
     lower_condition(alloc, e, &slots.rows, frame, block)
+}
+
+/// Appends the statements of an operand, and gives the word that has the value of `e` once they have
+/// run. Where `e` traps they return 1. They have no loop, and take no turn.
+///
+/// What is said of the words, the temporaries and the target of `lower` holds here too. The word
+/// names what `e` names, or the variable `scratch`. The one error is `NoMemory`, where memory is
+/// refused.
+#[tactic(auto, using(crate::proofs::Contract::rows_fit, crate::proofs::Contract::temps_fit))]
+pub fn lower_operand(
+    alloc: Global,
+    e: &Expr,
+    slots: &Slots,
+    scratch: u32,
+    block: &mut Stmts,
+) -> Result<Box<W>, NoMemory>
+    requires bound { IsTrue (is_bound (length slots.now.rows) (term_of e.now)) }
+    requires temporaries { temps_of (term_of e.now) ≤ slots.now.temps }
+    requires target { IsTarget (scope_of slots.now) (term_of e.now) scratch }
+
+    ensures block { OnOk result (Appends block.old block.new
+        (operand_statements (scope_of slots.now) (term_of e.now) scratch)) }
+    ensures word { IfOk result (λ w. operand_of w.value
+        ≡ operand_word (scope_of slots.now) (term_of e.now) scratch) }
+    ensures words { OnOk result (IsTrue (has_words (term_of e.now))) }
+
+    // Of what is appended, and of the word:
+    ensures gives { OnOk result (GivesWord (scope_of slots.now) (term_of e.now) scratch
+        (operand_statements (scope_of slots.now) (term_of e.now) scratch)
+        (operand_word (scope_of slots.now) (term_of e.now) scratch)) }
+    ensures names { OnOk result (NamesOnly (scope_of slots.now) (term_of e.now) scratch
+        (operand_statements (scope_of slots.now) (term_of e.now) scratch)) }
+    ensures word_names { OnOk result (WordNamesOnly (scope_of slots.now) (term_of e.now) scratch
+        (operand_word (scope_of slots.now) (term_of e.now) scratch)) }
+    ensures few { OnOk result
+        (block_count (operand_statements (scope_of slots.now) (term_of e.now) scratch)
+        ≤ cost (term_of e.now)) }
+    ensures no_loops { OnOk result
+        (block_loops (operand_statements (scope_of slots.now) (term_of e.now) scratch) ≡ 0) }
+    ensures constants { OnOk result (IsTrue (block_has_words
+        (operand_statements (scope_of slots.now) (term_of e.now) scratch))) }
+    ensures word_constants { OnOk result (IsTrue (operand_has_words
+        (operand_word (scope_of slots.now) (term_of e.now) scratch))) }
+{
+    laws_below();
+    let frame = Frame {
+        target: scratch,
+        first_temp: slots.first_temp,
+    };
+    lower_word(alloc, e, &slots.rows, frame, block)
 }
 
 /// The statements that put the value of `e` into the variable `target`, or return 1 exactly where it

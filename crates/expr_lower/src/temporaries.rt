@@ -50,8 +50,8 @@ fn is_arithmetic(op: BinOp) -> bool
     matches!(op, BinOp::Add | BinOp::Sub | BinOp::Mul)
 }
 
-/// Whether an expression is one word of the C text.
-fn is_plain(e: &Expr) -> bool
+/// Whether an expression is one word of the C text, and needs no statements.
+pub fn is_plain(e: &Expr) -> bool
     ensures { result ≡ is_plain (term_of e.now) }
 {
     match e {
