@@ -5,44 +5,12 @@
 # are written here by the program that the gate leaves.
 set -eu
 cd "$(dirname "$0")"
-. ../program.sh
-here=$PWD
-inputs=0
-examples=0
-
-# built NAME: makes a program of the C text of NAME.strm
-built() {
-  (cd "$work" && "$here/driver.sh" "$1.c") >"$work/$1-main.c"
-  cc -std=c11 -Wall -Wextra -Werror -I. "$work/$1-main.c" -o "$work/$1"
-  examples=$((examples + 1))
-}
+. ./running.sh
 
 # compiled NAME: writes the C text of NAME.strm and makes a program of it
 compiled() {
   "$program" compile "../$1.strm" >"$work/$1.c"
   built "$1"
-}
-
-# gives NAME ROWS STATUS INPUT..: over these inputs, each an int or the items of an array in brackets,
-# NAME.strm prints these rows, each ended by a comma here, and the program ends with this number
-gives() {
-  name=$1 wanted="$2 $3"
-  shift 3
-  words=()
-  for input in "$@"; do
-    case $input in
-      '['*) printf '%s\n' "${input//[][]/}" >"$work/array-${#words[@]}" && words+=("$work/array-${#words[@]}") ;;
-      *) words+=("$input") ;;
-    esac
-  done
-  status=0
-  "$work/$name" "${words[@]}" >"$work/rows" 2>"$work/said" || status=$?
-  got="$(tr '\n' ',' <"$work/rows") $status"
-  if [ "$got" != "$wanted" ]; then
-    echo "over '$*' the C text of $name.strm prints and returns '$got', not '$wanted': $(cat "$work/said")"
-    exit 1
-  fi
-  inputs=$((inputs + 1))
 }
 
 cp ../../crates/strymonas_cli/stdout "$work/squares.c"
@@ -72,4 +40,4 @@ gives surcharge '' 2 5 '[100 50]'
 gives surcharge '' 2 five '[100 50]' 10
 gives surcharge '' 2 5 '[100 9223372036854775808]' 10
 
-echo "the C texts of $examples examples give what was worked out by hand, for $inputs inputs"
+echo "the C texts of $texts examples give what was worked out by hand, for $inputs inputs"
