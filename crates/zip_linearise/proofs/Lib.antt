@@ -1,0 +1,17 @@
+pub mod RenumberedValues
+pub mod ActLengths
+pub mod MovedActs
+pub mod Runs
+pub mod AlikeTurns
+pub mod StageTurns
+pub mod StageMachines
+pub mod RenumberedLeaves
+pub mod MachineLeaves
+pub mod SoundMachines
+pub mod MachineWords
+pub mod MachineRows
+pub mod LinearMachines
+pub mod MadeRows
+pub mod MadeActs
+pub mod StageRoom
+pub mod LinearRoom

@@ -1,0 +1,159 @@
+//! The machine of a stage over a machine.
+
+ghost use Rattle.std.specs.Prelude.{◌≡◌, ◌+◌, ◌<◌, ◌^◌, ◌++◌, length, IfOk, IsTrue, if◌then◌else◌};
+ghost use Rattle.list_denotation.specs.Copies.{term_of, terms_of};
+ghost use Rattle.stateful_core.specs.CoreCopies.{action_of, actions_of};
+ghost use Rattle.stateful_core.specs.CoreShapes.{action_locals, actions_locals};
+ghost use Rattle.stateful_core.specs.MostWords.{added_words, parts_words};
+ghost use Rattle.stateful_core.specs.WellFormed.{are_sound_parts, is_sound_core};
+ghost use Rattle.zip_linearise.specs.MachineCopies.{machine_of};
+ghost use Rattle.zip_linearise.specs.Machines.{is_always, join_guards, machine_core, machine_from};
+ghost use Rattle.zip_linearise.specs.Machines.{stage_machine};
+
+use crate::machine::Machine;
+use crate::renumbering::{Room, push_moved, renumber, renumber_row};
+use list_denotation::{Expr, Exprs};
+use stateful_core::{Act, Acts, boxed, copies, copy, push_lets};
+use std::alloc::Global;
+use strm_num::{List, NoMemory};
+
+/// The words of a row.
+#[tactic(auto, using(crate::proofs::MadeRows::terms_length))]
+fn width(es: &Exprs) -> u32
+    requires { length (terms_of es.now) < 2 ^ 32 }
+    ensures { result ≡ length (terms_of es.now) }
+{
+    es.len() as u32
+}
+
+/// Whether an act adds a local word.
+fn adds_local(act: &Act) -> bool
+    ensures { action_locals (action_of act.now) ≡ (if result then 1 else 0) }
+{
+    matches!(act, Act::Let(_) | Act::Read(_, _))
+}
+
+/// How many local words acts add.
+#[tactic(auto, using(crate::proofs::MadeActs::local_steps))]
+fn locals(acts: &Acts) -> u32
+    requires { actions_locals (actions_of acts.now) < 2 ^ 32 }
+    ensures { result ≡ actions_locals (actions_of acts.now) }
+{
+    let mut count = 0;
+    for act in acts.as_slice() {
+        if adds_local(act) {
+            count += 1;
+        }
+    }
+    count
+}
+
+/// A row and then another.
+#[tactic(auto, using(crate::proofs::MadeRows::append_steps))]
+fn both_rows(alloc: Global, first: &Exprs, second: &Exprs) -> Result<Exprs, NoMemory>
+    ensures { IfOk result (λ made. terms_of made ≡ terms_of first.now ++ terms_of second.now) }
+{
+    let mut made = copies(alloc, first)?;
+    for i in 0..second.len() {
+        made.push(Box::into_inner(copy(alloc, second.get(i))?))?;
+    }
+    Ok(made)
+}
+
+fn is_always(e: &Expr) -> bool
+    ensures { result ≡ is_always (term_of e.now) }
+{
+    matches!(e, Expr::Truth(true))
+}
+
+/// A guard that is true where both are.
+fn join_guards(alloc: Global, g: Box<Expr>, h: Box<Expr>) -> Result<Box<Expr>, NoMemory>
+    ensures { IfOk result (λ made. term_of made.value
+        ≡ join_guards (term_of g.value) (term_of h.value)) }
+{
+    if is_always(&g) {
+        return Ok(h);
+    }
+    if is_always(&h) {
+        return Ok(g);
+    }
+    boxed(alloc, Expr::And(g, h))
+}
+
+/// The machine of these parts.
+pub fn boxed_machine(
+    alloc: Global,
+    scope: u32,
+    init: Exprs,
+    guard: Box<Expr>,
+    acts: Acts,
+    item: Exprs,
+) -> Result<Box<Machine>, NoMemory>
+    ensures { IfOk result (λ made. machine_of made.value
+        ≡ machine_from scope (terms_of init) (term_of guard.value) (actions_of acts)
+        (terms_of item)) }
+{
+    let guard = Box::into_inner(guard);
+    Ok(Box::new(
+        alloc,
+        Machine {
+            scope,
+            init,
+            guard,
+            acts,
+            item,
+        },
+    )?)
+}
+
+/// The machine of a stage with these parts over a machine. The one error is `NoMemory`.
+pub fn stage_machine(
+    alloc: Global,
+    m: &Machine,
+    init: &Exprs,
+    guard: &Expr,
+    acts: &Acts,
+    item: &Exprs,
+) -> Result<Box<Machine>, NoMemory>
+    requires machine { IsTrue (is_sound_core (machine_core (machine_of m.now))) }
+    requires stage { IsTrue (are_sound_parts m.now.scope (length (terms_of m.now.item))
+        (terms_of init.now) (term_of guard.now) (actions_of acts.now) (terms_of item.now)) }
+    requires room { m.now.scope + added_words (machine_core (machine_of m.now))
+        + parts_words m.now.scope (terms_of init.now) (actions_of acts.now) (terms_of item.now)
+        < 2 ^ 32 }
+    ensures { IfOk result (λ made. machine_of made.value
+        ≡ stage_machine (actions_locals (actions_of m.now.acts)) (machine_of m.now)
+        (terms_of init.now) (term_of guard.now) (actions_of acts.now) (terms_of item.now)) }
+{
+    let lower = width(&m.init);
+    let own = width(init);
+    let of_machine = Room {
+        at: m.scope + lower,
+        by: own,
+        then_at: 0,
+        then_by: 0,
+    };
+    let of_guard = Room {
+        at: m.scope,
+        by: lower,
+        then_at: 0,
+        then_by: 0,
+    };
+    let of_stage = Room {
+        at: m.scope,
+        by: lower,
+        then_at: m.scope + lower + own,
+        then_by: locals(&m.acts),
+    };
+    let init = both_rows(alloc, &m.init, init)?;
+    let guard = renumber(alloc, guard, of_guard)?;
+    let below = renumber(alloc, &m.guard, of_machine)?;
+    let guard = join_guards(alloc, guard, below)?;
+    let row = renumber_row(alloc, &m.item, of_machine)?;
+    let item = renumber_row(alloc, item, of_stage)?;
+    let mut made = List::new(alloc);
+    push_moved(alloc, m.acts.as_slice(), of_machine, 0, &mut made)?;
+    push_lets(alloc, &row, &mut made)?;
+    push_moved(alloc, acts.as_slice(), of_stage, lower, &mut made)?;
+    boxed_machine(alloc, m.scope, init, guard, made, item)
+}
