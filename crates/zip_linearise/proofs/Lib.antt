@@ -15,3 +15,4 @@ pub mod MadeRows
 pub mod MadeActs
 pub mod StageRoom
 pub mod LinearRoom
+pub mod WorkedRows

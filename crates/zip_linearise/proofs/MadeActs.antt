@@ -5,23 +5,25 @@ use Rattle.std.proofs.lemmas.Result.{on_ok_weaker}
 use Rattle.std.proofs.lemmas.List.{drop_all, at_drop_more}
 use Rattle.list_denotation.specs.declared.expr.Expr.{Expr}
 use Rattle.list_denotation.specs.Copies.{term_of, terms_of}
+use Rattle.list_denotation.specs.Terms.{Term}
 use Rattle.stateful_core.specs.declared.core_term.Act.{Act, the_lemmas}
 use Rattle.stateful_core.specs.declared.core_term.Act.TheVariants as act
 use Rattle.stateful_core.specs.CoreCopies.{action_of, actions_of}
 use Rattle.stateful_core.specs.CoreShapes.{action_locals, actions_locals}
+use Rattle.stateful_core.specs.StreamCores.{let_all}
 use Rattle.stateful_core.specs.CoreTerms.{Let, Read, KeepIf, StopUnless, Update, When, Actions, Nil, Cons, join}
 use Rattle.zip_linearise.specs.Renumbering.{renumber, renumber_row, move_action, move_actions}
 use Rattle.zip_linearise.specs.WordRoom.{StaysBelow, StayBelow}
 
-pub join_join : (a b c : Actions) → join (join a b) c ≡ join a (join b c)
+join_join : (a b c : Actions) → join (join a b) c ≡ join a (join b c)
 join_join Nil b c = refl
 join_join (Cons s a) b c = ap (λ z. Cons s z) (join_join a b c)
 
-pub join_nil : (a : Actions) → join a Nil ≡ a
+join_nil : (a : Actions) → join a Nil ≡ a
 join_nil Nil = refl
 join_nil (Cons s a) = ap (λ z. Cons s z) (join_nil a)
 
-pub acts_push : (acts : List Act) (a : Act) → actions_of (acts ++ a ∷ []) ≡ join (actions_of acts) (Cons (action_of a) Nil)
+acts_push : (acts : List Act) (a : Act) → actions_of (acts ++ a ∷ []) ≡ join (actions_of acts) (Cons (action_of a) Nil)
 acts_push [] a = refl
 acts_push (x ∷ acts) a = ap (λ z. Cons (action_of x) z) (acts_push acts a)
 
@@ -31,6 +33,16 @@ at_index acts i a h is = at_drop_more (λ z. z) acts i a h ∙ ap (λ z. z ∷ d
 
 pub from_empty : (f : ℕ → ℕ) (k : ℕ) (old s acts : List Act) (now : Actions) → old ≡ [] → s ≡ acts → now ≡ join (actions_of old) (move_actions f k StopUnless (actions_of s)) → now ≡ move_actions f k StopUnless (actions_of acts)
 from_empty f k old s acts now e q h = h ∙ ap (λ z. join (actions_of z) (move_actions f k StopUnless (actions_of s))) e ∙ ap (λ z. move_actions f k StopUnless (actions_of z)) q
+
+lets_before : (es : List Term) (more : Actions) → join (let_all es Nil) more ≡ let_all es more
+lets_before [] more = refl
+lets_before (e ∷ es) more = ap (λ z. Cons (Let e) z) (lets_before es more)
+
+-- the acts of a machine, then a row, and then the acts of a stage
+pub stage_joined : (lower : Actions) (row es : List Term) (upper first second third : Actions) → first ≡ lower → row ≡ es → second ≡ join first (let_all row Nil) → third ≡ join second upper → third ≡ join lower (let_all es upper)
+stage_joined lower row es upper first second third f r s t =
+    t ∙ ap (λ z. join z upper) (s ∙ ap (λ z. join z (let_all row Nil)) f ∙ ap (λ z. join lower (let_all z Nil)) r)
+    ∙ join_join lower (let_all es Nil) upper ∙ ap (join lower) (lets_before es upper)
 
 pub move_step : (f : ℕ → ℕ) (k : ℕ) (before now : Actions) (acts : List Act) (i : ℕ) (a : Act) → i < length acts → a ≡ get_or acts i a → now ≡ join before (Cons (move_action f k StopUnless (action_of a)) Nil) → join now (move_actions f k StopUnless (actions_of (drop (i + 1) acts))) ≡ join before (move_actions f k StopUnless (actions_of (drop i acts)))
 move_step f k before now acts i a h is q =

@@ -1,5 +1,5 @@
 -- Where the words of a stage and its machine are few enough, each of them has a number of 32 bits in the machine of both.
-use Rattle.std.proofs.Common.{◌≡◌, ℕ, ◌+◌, ◌-◌, ◌^◌, ◌≤◌, ◌<◌, List, [], ◌∷◌, ◌++◌, length, Bool, true, false, ◌&&◌, refl, ap, ◌∙◌, arith}
+use Rattle.std.proofs.Common.{◌≡◌, ℕ, ◌+◌, ◌-◌, ◌^◌, ◌≤◌, ◌<◌, List, [], ◌∷◌, ◌++◌, length, Bool, true, false, ◌&&◌, refl, arith}
 use Rattle.std.specs.Prelude.{IsTrue, nat_lt, nat_le, if◌then◌else◌}
 use Rattle.std.proofs.lemmas.Bool.{ltb-true, leb-true}
 use Rattle.std.proofs.Math.Path.{fun_ext}
@@ -12,11 +12,10 @@ use Rattle.stateful_core.specs.CoreShapes.{action_locals, actions_locals}
 use Rattle.stateful_core.specs.MostWords.{action_words, actions_words, added_words, parts_words}
 use Rattle.stateful_core.specs.StreamCores.{let_all}
 use Rattle.stateful_core.specs.WellFormed.{is_sure, all_sure, is_sound_action, are_sound_actions, are_sound_parts, is_sound_core}
-use Rattle.zip_linearise.specs.Machines.{MachineParts, machine_from, machine_core, join_guards, machine_word, guard_word, stage_word, stage_machine}
+use Rattle.zip_linearise.specs.Machines.{MachineParts, machine_from, machine_core, join_guards, stage_machine}
 use Rattle.zip_linearise.specs.Renumbering.{with_room, renumber, renumber_row, move_actions}
 use Rattle.zip_linearise.specs.WordRoom.{ReadsBelow, RowReadsBelow, StaysBelow, StayBelow, number_in, most_in}
 use Rattle.zip_linearise.specs.declared.renumbering.Room.{Room}
-use Rattle.zip_linearise.proofs.MadeActs.{join_join}
 use Rattle.zip_linearise.proofs.SoundMachines.{SoundParts, sound_parts}
 
 -- ---- words that are read
@@ -149,18 +148,12 @@ one_room p d = fun_ext (λ k. no_room (with_room p d k))
 
 module _ (m : MachineParts) (init : List Term) (guard : Term) (acts : Actions) (item : List Term) (a b locals : ℕ) where
   -- the parts that the code makes are those of the machine of the stage
-  pub stage_made : (made_init : List Term) (g h made_guard : Term) (row made_item : List Term) (first second third : Actions) → a ≡ length m.init → b ≡ length init → locals ≡ actions_locals m.acts
+  pub stage_made : (made_init : List Term) (g h made_guard : Term) (made_acts : Actions) (made_item : List Term) → a ≡ length m.init → b ≡ length init → locals ≡ actions_locals m.acts
       → made_init ≡ m.init ++ init → g ≡ renumber (number_in (guard_room m.scope a)) guard → h ≡ renumber (number_in (machine_room m.scope a b)) m.guard
-      → made_guard ≡ join_guards g h → row ≡ renumber_row (number_in (machine_room m.scope a b)) m.item → made_item ≡ renumber_row (number_in (stage_room m.scope a b locals)) item
-      → first ≡ move_actions (number_in (machine_room m.scope a b)) 0 StopUnless m.acts → second ≡ join first (let_all row Nil)
-      → third ≡ join second (move_actions (number_in (stage_room m.scope a b locals)) a StopUnless acts)
-      → machine_from m.scope made_init made_guard third made_item ≡ stage_machine (actions_locals m.acts) m init guard acts item
-  stage_made made_init g h made_guard row made_item first second third a_is b_is locals_are i_is g_is h_is guard_is row_is item_is first_is second_is third_is =
-      rw (i_is, guard_is, g_is, h_is, third_is, second_is, first_is, row_is, item_is, a_is, b_is, locals_are, one_room m.scope (length m.init), one_room (m.scope + length m.init) (length init))
-      (ap (λ z. machine_from m.scope (m.init ++ init) (join_guards (renumber (guard_word m) guard) (renumber (machine_word m init) m.guard)) z (renumber_row (stage_word (actions_locals m.acts) m init) item))
-      (join_join (move_actions (machine_word m init) 0 StopUnless m.acts) (let_all (renumber_row (machine_word m init) m.item) Nil) (move_actions (stage_word (actions_locals m.acts) m init) (length m.init) StopUnless acts)
-      ∙ ap (join (move_actions (machine_word m init) 0 StopUnless m.acts)) (lets_before (renumber_row (machine_word m init) m.item) (move_actions (stage_word (actions_locals m.acts) m init) (length m.init) StopUnless acts))))
-    where
-      lets_before : (es : List Term) (more : Actions) → join (let_all es Nil) more ≡ let_all es more
-      lets_before [] more = refl
-      lets_before (t ∷ es) more = ap (λ z. Cons (Let t) z) (lets_before es more)
+      → made_guard ≡ join_guards g h
+      → made_acts ≡ join (move_actions (number_in (machine_room m.scope a b)) 0 StopUnless m.acts)
+      (let_all (renumber_row (number_in (machine_room m.scope a b)) m.item) (move_actions (number_in (stage_room m.scope a b locals)) a StopUnless acts))
+      → made_item ≡ renumber_row (number_in (stage_room m.scope a b locals)) item
+      → machine_from m.scope made_init made_guard made_acts made_item ≡ stage_machine (actions_locals m.acts) m init guard acts item
+  stage_made made_init g h made_guard made_acts made_item a_is b_is locals_are i_is g_is h_is guard_is acts_are item_is =
+      rw (i_is, guard_is, g_is, h_is, acts_are, item_is, a_is, b_is, locals_are, one_room m.scope (length m.init), one_room (m.scope + length m.init) (length init)) refl

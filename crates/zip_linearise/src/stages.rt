@@ -1,14 +1,19 @@
 //! The machine of a stage over a machine.
 
-ghost use Rattle.std.specs.Prelude.{◌≡◌, ◌+◌, ◌<◌, ◌^◌, ◌++◌, length, IfOk, IsTrue, if◌then◌else◌};
+ghost use Rattle.std.specs.Prelude.{◌≡◌, ◌+◌, ◌-◌, ◌<◌, ◌^◌, ◌++◌, length, IfOk, IsTrue, if◌then◌else◌};
 ghost use Rattle.list_denotation.specs.Copies.{term_of, terms_of};
 ghost use Rattle.stateful_core.specs.CoreCopies.{action_of, actions_of};
 ghost use Rattle.stateful_core.specs.CoreShapes.{action_locals, actions_locals};
+ghost use Rattle.stateful_core.specs.CoreTerms.{StopUnless, join};
 ghost use Rattle.stateful_core.specs.MostWords.{added_words, parts_words};
+ghost use Rattle.stateful_core.specs.StreamCores.{let_all};
 ghost use Rattle.stateful_core.specs.WellFormed.{are_sound_parts, is_sound_core};
 ghost use Rattle.zip_linearise.specs.MachineCopies.{machine_of};
 ghost use Rattle.zip_linearise.specs.Machines.{is_always, join_guards, machine_core, machine_from};
 ghost use Rattle.zip_linearise.specs.Machines.{stage_machine};
+ghost use Rattle.zip_linearise.specs.Renumbering.{renumber_row, move_actions};
+ghost use Rattle.zip_linearise.specs.WordRoom.{number_in, most_in};
+ghost use Rattle.zip_linearise.specs.WordRoom.{RowReadsBelow, StayBelow};
 
 use crate::machine::Machine;
 use crate::renumbering::{Room, push_moved, renumber, renumber_row};
@@ -80,6 +85,32 @@ fn join_guards(alloc: Global, g: Box<Expr>, h: Box<Expr>) -> Result<Box<Expr>, N
     boxed(alloc, Expr::And(g, h))
 }
 
+/// The acts of a machine, a local word for each word of its row, and the acts of a stage, whose state
+/// stands `behind` words further on.
+fn stage_acts(
+    alloc: Global,
+    m: &Machine,
+    of_machine: Room,
+    acts: &Acts,
+    of_stage: Room,
+    behind: u32,
+) -> Result<Acts, NoMemory>
+    requires machine { StayBelow (most_in of_machine) (2 ^ 32) (actions_of m.now.acts) }
+    requires row { RowReadsBelow (most_in of_machine) (terms_of m.now.item) }
+    requires stage { StayBelow (most_in of_stage) (2 ^ 32 - behind) (actions_of acts.now) }
+    ensures { IfOk result (λ made. actions_of made
+        ≡ join (move_actions (number_in of_machine) 0 StopUnless (actions_of m.now.acts))
+        (let_all (renumber_row (number_in of_machine) (terms_of m.now.item))
+        (move_actions (number_in of_stage) behind StopUnless (actions_of acts.now)))) }
+{
+    let row = renumber_row(alloc, &m.item, of_machine)?;
+    let mut made = List::new(alloc);
+    push_moved(alloc, m.acts.as_slice(), of_machine, 0, &mut made)?;
+    push_lets(alloc, &row, &mut made)?;
+    push_moved(alloc, acts.as_slice(), of_stage, behind, &mut made)?;
+    Ok(made)
+}
+
 /// The machine of these parts.
 pub fn boxed_machine(
     alloc: Global,
@@ -149,11 +180,7 @@ pub fn stage_machine(
     let guard = renumber(alloc, guard, of_guard)?;
     let below = renumber(alloc, &m.guard, of_machine)?;
     let guard = join_guards(alloc, guard, below)?;
-    let row = renumber_row(alloc, &m.item, of_machine)?;
+    let acts = stage_acts(alloc, m, of_machine, acts, of_stage, lower)?;
     let item = renumber_row(alloc, item, of_stage)?;
-    let mut made = List::new(alloc);
-    push_moved(alloc, m.acts.as_slice(), of_machine, 0, &mut made)?;
-    push_lets(alloc, &row, &mut made)?;
-    push_moved(alloc, acts.as_slice(), of_stage, lower, &mut made)?;
-    boxed_machine(alloc, m.scope, init, guard, made, item)
+    boxed_machine(alloc, m.scope, init, guard, acts, item)
 }
