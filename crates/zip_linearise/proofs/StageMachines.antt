@@ -70,8 +70,8 @@ pub data BothStates (a b : ℕ) : List ℕ → List ℕ × List ℕ → Type 0 w
 
 -- ---- turns
 
--- The machine takes a row of w words, where it takes rows, and leaves so many local words. It reads n bound words or more, and
--- the stage k.
+-- The machine's local words begin as a row of w words, and it leaves so many. Where its acts begin n words are bound, and k
+-- where those of the stage begin.
 module _ (laws : Laws) (inputs : List Input) (env : List ℕ) (w locals n k : ℕ) (m : MachineParts) (init : List Term) (guard : Term) (acts : Actions) (item : List Term)
     (scoped : length env ≡ m.scope) (counted : locals ≡ w + actions_locals m.acts)
     (item_bound : IsTrue (all_bound (m.scope + length m.init + locals) m.item)) (item_undivided : IsTrue (all_undivided m.item))
