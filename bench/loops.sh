@@ -1,0 +1,83 @@
+#!/usr/bin/env bash
+# Compares the loops that strymonas emits with loops written by hand in C and with Rust's iterators:
+#
+#   bench/loops.sh [ITEMS [ROUNDS]]
+#
+# prints a table for gcc and one for clang, each where it is there: of each pipeline in bench/loops the
+# milliseconds of the loop by hand, and how many times as long the emitted loop and the iterators take. All
+# run over the same random items, 10,000,000 of them, which lie in memory and were gone through before. Each
+# loop is compiled at -O2 and put at three code offsets, and the least time of all its runs counts, of 11
+# rounds. Rust is compiled at -O, so its column compares compilers too, and is '-' where there is no rustc.
+#
+# Single figures within a tenth are noise. A pipeline that `compile` doesn't take yet is left out, with a
+# line that says so. The script ends with 1 where the results of a loop differ.
+set -eu
+cd "$(dirname "$0")/.."
+. examples/program.sh
+items=${1:-10000000}
+rounds=${2:-11}
+loops=$PWD/bench/loops
+offsets='0 1 2'
+names='sum sum_of_squares even_squares maps filters filter_of_scan take_while dot_product
+  cart flat_map_take flat_map_after_zip zip_after_flat_map zip_of_flat_maps'
+
+# the C texts, and the list of those loops that have one
+built=()
+: >"$work/list.h"
+for name in $names; do
+  status=0
+  "$program" compile "$loops/$name.strm" >"$work/$name.c" 2>"$work/err" || status=$?
+  if [ "$status" = 0 ]; then
+    echo "LOOP($name)" >>"$work/list.h"
+    built+=("$name")
+  elif grep -q Unbuilt "$work/err"; then
+    echo "left out: $name isn't built yet"
+  else
+    echo "$name was not compiled: $(cat "$work/err")" >&2
+    exit 1
+  fi
+done
+if [ "${#built[@]}" = 0 ]; then
+  echo 'skipped: no pipeline is built'
+  exit 0
+fi
+
+# Rust's iterators, at each offset
+rust_options=()
+rust_objects=()
+if command -v rustc >/dev/null 2>&1; then
+  for offset in $offsets; do
+    sed "s/OFFSET/$offset/g" "$loops/iterators.rs" >"$work/iterators_$offset.rs"
+    rustc --edition 2021 -O -C codegen-units=1 -C panic=abort --crate-type lib --emit obj \
+      "$work/iterators_$offset.rs" -o "$work/rust-$offset.o"
+    rust_objects+=("$work/rust-$offset.o")
+  done
+  rust_options=(-DWITH_RUST)
+else
+  echo 'there is no rustc: nothing is compared with Rust'
+fi
+
+# timed COMPILER: makes the program that times the loops, and runs it
+timed() {
+  local compile=("$1" -std=c11 -O2 "-I$loops" "-I$work") objects=("${rust_objects[@]}") name offset
+  for offset in $offsets; do
+    "${compile[@]}" "-DOFFSET=$offset" -c "$loops/hand.c" -o "$work/hand-$offset.o"
+    objects+=("$work/hand-$offset.o")
+    for name in "${built[@]}"; do
+      "${compile[@]}" "-DOFFSET=$offset" "-DFUNCTION=emitted_${name}_$offset" "-DC_TEXT=\"$name.c\"" \
+        -c "$loops/emitted.c" -o "$work/$name-$offset.o"
+      objects+=("$work/$name-$offset.o")
+    done
+  done
+  "${compile[@]}" "${rust_options[@]}" "$loops/time.c" "${objects[@]}" -o "$work/time-$1"
+  printf '\n%s\n' "$("$1" --version | head -n 1)"
+  "$work/time-$1" "$items" "$rounds"
+}
+
+for compiler in gcc clang; do
+  if command -v "$compiler" >/dev/null 2>&1; then
+    timed "$compiler"
+  else
+    echo "there is no $compiler: nothing is measured with it"
+  fi
+done
