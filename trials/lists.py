@@ -278,7 +278,7 @@ def main():
     parser.add_argument("bindings", nargs="*", metavar="NAME=VALUE")
     parser.add_argument("--pulls", type=int, help="rows of each source at most")
     parser.add_argument("--rows", type=int, help="printed rows at most")
-    options = parser.parse_args()
+    options = parser.parse_intermixed_args()
     with open(options.file, encoding="utf-8") as file:
         program = program_of(file.read())
     inputs = dict(input_of(program, binding) for binding in options.bindings)

@@ -127,9 +127,9 @@ class Generator:
     def __init__(self, rng, options):
         self.rng = rng
         self.options = options
-        self.nodes = 0
-        self.operators = 0
-        self.deepest = 0
+        self.node_count = 0
+        self.operator_count = 0
+        self.greatest_depth_used = 0
         # the usual depth of expressions, that of the few deep ones, and how often one divides
         self.depth = rng.choice((1, 2, 3, 4))
         self.greatest_depth = rng.choice((5, 10, rng.randint(10, 90)))
@@ -236,8 +236,8 @@ class Generator:
 
     def used(self, expression):
         """The tokens of an expression that stands in the pipeline."""
-        self.nodes += expression.nodes
-        self.deepest = max(self.deepest, expression.depth)
+        self.node_count += expression.nodes
+        self.greatest_depth_used = max(self.greatest_depth_used, expression.depth)
         return expression.tokens
 
     def expression_tokens(self, kind, scope):
@@ -288,12 +288,12 @@ class Generator:
     def stream(self, scope, most_words=MOST_WORDS, nesting=1):
         tokens, kinds = self.source(scope, most_words, nesting)
         for _ in range(self.number_of_stages(nesting)):
-            if self.operators > MOST_OPERATORS - 20:
+            if self.operator_count > MOST_OPERATORS - 20:
                 break
             stage, kinds = self.stage(kinds, scope, nesting)
             tokens += stage
         if len(kinds) > most_words:
-            self.operators += 1
+            self.operator_count += 1
             stage, kinds = self.mapped(kinds, scope, ["int"])
             tokens += ["|", *stage]
         return tokens, kinds
@@ -312,7 +312,7 @@ class Generator:
         return self.rng.choices(keywords, allowed)[0] if any(allowed) else None
 
     def source(self, scope, most_words, nesting):
-        self.operators += 1
+        self.operator_count += 1
         arrays = self.names_of_kind(scope, "array")
         may_zip = nesting < self.options.nesting and most_words > 1
         match self.chosen(SOURCES, (4 if arrays else 0, 2, 2, 4 if may_zip else 0)):
@@ -380,17 +380,17 @@ class Generator:
 
     def stage(self, kinds, scope, nesting):
         """The tokens of a stage with the bar before it, none where no stage may be used."""
-        self.operators += 1
-        weights = [4, 2, 1, 1, 2, 2, 4 if nesting < self.options.nesting else 0]
-        match self.chosen(STAGES, weights):
-            case None:
-                self.operators -= 1
-                return [], kinds
+        may_nest = nesting < self.options.nesting
+        keyword = self.chosen(STAGES, (4, 2, 1, 1, 2, 2, 4 if may_nest else 0))
+        if keyword is None:
+            return [], kinds
+        self.operator_count += 1
+        match keyword:
             case "map":
                 stage, kinds = self.mapped(kinds, scope)
-            case "filter" | "takeWhile" as keyword:
+            case "filter" | "takeWhile":
                 stage = self.filtered(keyword, kinds, scope)
-            case "take" | "drop" as keyword:
+            case "take" | "drop":
                 stage = self.counted(keyword, scope)
             case "scan":
                 stage, kinds = self.folded("scan", kinds, scope)
@@ -437,7 +437,7 @@ class Generator:
         return ["flatMap", *pattern, "->", "(", *stream, ")"], new_kinds
 
     def terminal(self, kinds, scope):
-        self.operators += 1
+        self.operator_count += 1
         if self.chosen(TERMINALS, (2, 1)) == "fold":
             return self.folded("fold", kinds, scope)[0]
         return ["print"]
@@ -511,9 +511,9 @@ def pipeline(seed, number, options):
             continue
         text = text_of(tokens, rng)
         if (
-            generator.nodes <= MOST_NODES
-            and generator.deepest <= MOST_DEPTH
-            and generator.operators <= MOST_OPERATORS
+            generator.node_count <= MOST_NODES
+            and generator.greatest_depth_used <= MOST_DEPTH
+            and generator.operator_count <= MOST_OPERATORS
             and len(text.encode()) <= MOST_BYTES
         ):
             sets = options.input_sets if inputs else 1

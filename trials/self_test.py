@@ -32,6 +32,12 @@ zip(array price, array qty)
 | fold {0, 0} with {n, t} {p, q} -> {n + 1, t + p * q}
 """
 
+UNEVEN_ARMS_OF_ITEMS = """
+zip(array a | map x -> x % 4 | flatMap k -> (range(0, k) | map i -> k * 10 + i),
+    array a | map y -> {y, y % 3} | flatMap {y, k} -> (range(0, k) | map j -> y + j))
+| fold {0, 0} with {s, c} {u, v} -> {s + u * v, c + 1}
+"""
+
 # The pipeline behind its inputs, the inputs in order of declaration, the printed rows, the ending.
 OBSERVATIONS = [
     (SQUARES_OF_EVEN, {"a": [1, 2, 3, 4]}, ["20"], "done"),
@@ -110,6 +116,9 @@ OBSERVATIONS = [
         "done",
     ),
     (f"zip({ENDLESS}, range(0, 2)) | print", {}, ["0 0", "1 1"], "done"),
+    # the left rows are 30, 31 and 32, the right ones 167951807 and 167951808
+    (UNEVEN_ARMS_OF_ITEMS, {"a": [167951807]}, ["10245060258 2"], "done"),
+    (UNEVEN_ARMS_OF_ITEMS, {"a": []}, ["0 0"], "done"),
     ("array größe | print", {"größe": [5]}, ["5"], "done"),
     (f"zip(range(0, 0), {ENDLESS} | filter i -> i < 0) | print", {}, [], "done"),
     (f"zip(range(0, 1), {ENDLESS} | filter i -> i < 0) | print", {}, [], "cut"),
