@@ -14,8 +14,9 @@ use Rattle.stateful_core.specs.Actions.{ActResult, Continue, Break, then_run, ov
 use Rattle.stateful_core.specs.Turns.{after_turn}
 use Rattle.stateful_core.specs.CoreRows.{turn_end}
 use Rattle.stateful_core.specs.StreamCores.{variables, let_all, set_state, next_state}
-use Rattle.stateful_core.proofs.LongerScopes.{value_before, length_word_values, length_row_value, variables_at}
+use Rattle.stateful_core.specs.Laws.{Laws}
 use Rattle.stateful_core.proofs.UndividedValues.{undivided_row}
+use Rattle.stateful_core.proofs.Variables.{length_word_values, variables_at}
 
 -- acts behind the local words of a row, and a fault where there is none
 abbrev pub with_row : Got (List ℕ) → (List ℕ → ActResult) → ActResult
@@ -32,13 +33,13 @@ overwrite_all [] (y ∷ s) h = absurd (omega arith)
 overwrite_all (x ∷ xs) [] h = absurd (omega arith)
 overwrite_all (x ∷ xs) (y ∷ s) h = ap (λ z. x ∷ z) (overwrite_all xs s (omega arith))
 
-module _ (env : List ℕ) (inputs : List Input) where
+module _ (laws : Laws) (env : List ℕ) (inputs : List Input) where
   -- the local words of a row, which see the words before them alone
   lets_behind : (es : List Term) (more : Actions) (s l added whole : List ℕ) → whole ≡ l ++ added → IsTrue (all_bound (length (env ++ (s ++ l))) es) → run_acts (let_all es more) env inputs s whole ≡ with_row (row_value es (env ++ (s ++ l)) inputs) (λ row. run_acts more env inputs s (l ++ (added ++ row)))
   lets_behind [] more s l added whole q b = ap (λ z. run_acts more env inputs s z) (q ∙ ap (λ z. l ++ z) (sym (append-nil added)))
   lets_behind (e ∷ es) more s l added whole q b =
       let p = both_true (is_bound (length (env ++ (s ++ l))) e) (all_bound (length (env ++ (s ++ l))) es) b in
-      rw (q, let k : env ++ (s ++ (l ++ added)) ≡ (env ++ (s ++ l)) ++ added = simp append_assoc in k, value_before inputs e (env ++ (s ++ l)) added p.0)
+      rw (q, let k : env ++ (s ++ (l ++ added)) ≡ (env ++ (s ++ l)) ++ added = simp append_assoc in k, laws.same_value (env ++ (s ++ l)) added inputs e p.0)
       (go (value e (env ++ (s ++ l)) inputs) (λ x. lets_behind es more s l (added ++ x ∷ []) ((l ++ added) ++ x ∷ []) (append_assoc l added (x ∷ [])) p.1))
     where
       go : (g : Got ℕ) → ((x : ℕ) → run_acts (let_all es more) env inputs s ((l ++ added) ++ x ∷ []) ≡ with_row (row_value es (env ++ (s ++ l)) inputs) (λ row. run_acts more env inputs s (l ++ ((added ++ x ∷ []) ++ row)))) → then_run (let_word g s (l ++ added)) (λ t k. run_acts (let_all es more) env inputs t k) ≡ with_row (with_value g (λ x. with_value (row_value es (env ++ (s ++ l)) inputs) (λ row. Is (x ∷ row)))) (λ row. run_acts more env inputs s (l ++ (added ++ row)))
@@ -71,7 +72,7 @@ module _ (env : List ℕ) (inputs : List Input) where
         by_form : (t : Bool) → all_undivided es ≡ t → after_turn (turn_end (run_acts (if t then set_state es else let_all es (set_state (variables k (length es)))) env inputs s l) f) go ≡ unless_broken (row_value es (env ++ (s ++ l)) inputs) (λ row. Row (out row) (go row))
         by_form true q =
             at_once (word_values es (env ++ (s ++ l)) inputs) (length_word_values inputs es (env ++ (s ++ l)))
-            ∙ ap (λ g. unless_broken g (λ row. Row (out row) (go row))) (sym (undivided_row inputs (env ++ (s ++ l)) es q))
+            ∙ ap (λ g. unless_broken g (λ row. Row (out row) (go row))) (sym (undivided_row laws inputs (env ++ (s ++ l)) es q))
         by_form false q =
             ap (λ u. after_turn (turn_end u f) go) (run_lets es (set_state (variables k (length es))) s l (subst (λ z. IsTrue (all_bound z es)) (sym at) bound))
-            ∙ from_locals (row_value es (env ++ (s ++ l)) inputs) (λ row h. length_row_value inputs es (env ++ (s ++ l)) row h)
+            ∙ from_locals (row_value es (env ++ (s ++ l)) inputs) (λ row h. laws.row_length inputs (env ++ (s ++ l)) es row h)

@@ -3,11 +3,12 @@ use Rattle.std.proofs.Common.{◌≡◌, ℕ, zero, suc, ◌+◌, ◌^◌, ◌�
 use Rattle.std.proofs.lemmas.List.{drop_all, drop_more}
 use Rattle.std.proofs.lemmas.Bool.{ltb-true, ltb-false, eq-eqb, ne_eqb}
 use Rattle.std.proofs.lemmas.Option.{slice_get-get_or}
-use Rattle.std.specs.Prelude.{IsTrue, slice_get, slice_index, nat_lt, ◌==◌, not, ◌-ℤ◌}
-use Rattle.strm_num.specs.Words.{signed, sum_of, is_less, truth_of}
+use Rattle.std.specs.Prelude.{IsTrue, slice_get, slice_index, nat_lt, ◌==◌, not}
+use Rattle.pipe_limits.specs.declared.TheConstants.{MOST_ITEMS}
+use Rattle.strm_num.specs.Words.{sum_of, is_less, truth_of}
 use Rattle.list_denotation.specs.declared.input.Input.{Input}
 use Rattle.list_denotation.specs.declared.expr.BinOp.TheVariants.{Ne}
-use Rattle.list_denotation.specs.Denotation.{count_of, words_from}
+use Rattle.list_denotation.specs.Denotation.{words_between}
 use Rattle.list_denotation.specs.Inputs.{items_in}
 use Rattle.list_denotation.specs.Terms.{Term, Var, Len, Bin}
 use Rattle.list_denotation.specs.Rows.{Rows, Ends, Row, End, Cut, unless_broken, firsts, single_rows, unfold_rows}
@@ -20,12 +21,13 @@ use Rattle.stateful_core.specs.Actions.{run_acts}
 use Rattle.stateful_core.specs.Turns.{Turn, Gives, after_turn, turn_rows}
 use Rattle.stateful_core.specs.CoreRows.{turn_end, core_turn, guard_value}
 use Rattle.stateful_core.specs.StreamCores.{variables, let_all, set_state, next_state, one_more}
-use Rattle.stateful_core.proofs.LongerScopes.{value_before, row_before, length_row_value, row_within, word_behind, variables_at}
+use Rattle.stateful_core.specs.Laws.{Laws}
 use Rattle.stateful_core.proofs.RunningActs.{with_row, run_lets, state_turn}
-use Rattle.stateful_core.proofs.SignedCounts.{below_end, at_end, none_between}
 use Rattle.stateful_core.proofs.UndividedValues.{undivided_value}
+use Rattle.stateful_core.proofs.Variables.{word_behind, variables_at}
+use Rattle.stateful_core.proofs.WordOrder.{not_less_itself, next_not_above, neither_less}
 
-module _ (env : List ℕ) (inputs : List Input) where
+module _ (laws : Laws) (env : List ℕ) (inputs : List Input) where
   -- the row is the first local word behind a state of one word
   local_row : (x y : ℕ) → word_values (Var (length env + 1) ∷ []) (env ++ ((x ∷ []) ++ (y ∷ []))) inputs ≡ y ∷ []
   local_row x y =
@@ -38,7 +40,7 @@ module _ (env : List ℕ) (inputs : List Input) where
 
   -- ---- array
 
-  module _ (a : ℕ) (few : length (items_in (slice_get inputs a)) ≤ 4194304) where
+  module _ (a : ℕ) (few : length (items_in (slice_get inputs a)) ≤ MOST_ITEMS) where
     abbrev items : List ℕ
     items = items_in (slice_get inputs a)
 
@@ -84,7 +86,7 @@ module _ (env : List ℕ) (inputs : List Input) where
     range_turn = core_turn (Cons (Let (Var (length env))) (set_state (one_more (length env) ∷ []))) (Var (length env + 1) ∷ []) env inputs
 
     guard_is : (x : ℕ) → range_guard (x ∷ []) ≡ truth_of (not (x == end))
-    guard_is x = rw (state_is x [], value_before inputs high env (x ∷ []) bound, is) refl
+    guard_is x = rw (state_is x [], laws.same_value env (x ∷ []) inputs high bound, is) refl
 
     guard_true : (x : ℕ) → (x ≡ end → ⊥) → range_guard (x ∷ []) ≡ 1
     guard_true x h = guard_is x ∙ ap (λ b. truth_of (not b)) (ne_eqb x end h)
@@ -96,23 +98,23 @@ module _ (env : List ℕ) (inputs : List Input) where
     number_turn x =
         rw (state_is x [], state_is x (x ∷ [])) (ap (λ z. Gives z (sum_of x 1 ∷ [])) (local_row (sum_of x 1) x))
 
-    abbrev left : ℕ → ℕ
-    left x = count_of (signed end -ℤ signed x)
-
     abbrev numbers_are : ℕ → ℕ → Type 0
-    numbers_are n x = turn_rows range_guard (λ s. range_turn s []) n (x ∷ []) ≡ firsts n (single_rows (words_from (left x) x))
+    numbers_are n x = turn_rows range_guard (λ s. range_turn s []) n (x ∷ []) ≡ firsts n (single_rows (words_between x end))
+
+    -- a word below the end isn't the end
+    not_at_end : (x : ℕ) → is_less x end ≡ true → x ≡ end → ⊥
+    not_at_end x e q = let h : is_less end end ≡ true = subst (λ y. is_less y end ≡ true) q e in let k = not_less_itself end in absurd cc
 
     range_none : (x : ℕ) (t : Bool) → is_less x end ≡ t → x < 2 ^ 64 → is_less end x ≡ false → numbers_are 0 x
-    range_none x true e b h = let l = below_end x end b word e in rw (guard_true x l.differs, l.count) refl
-    range_none x false e b h = rw (guard_false x (at_end x end b word h e), none_between x end e) refl
+    range_none x true e b h = rw (guard_true x (not_at_end x e), laws.range_goes_on x end b word e) refl
+    range_none x false e b h = rw (guard_false x (neither_less x end b word e h), laws.range_is_over x end e) refl
 
     range_some : (n x : ℕ) (t : Bool) → is_less x end ≡ t → x < 2 ^ 64 → is_less end x ≡ false → ((y : ℕ) → y < 2 ^ 64 → is_less end y ≡ false → numbers_are n y) → numbers_are (suc n) x
     range_some n x true e b h ih =
-        let l = below_end x end b word e in
-        rw (guard_true x l.differs, l.count)
+        rw (guard_true x (not_at_end x e), laws.range_goes_on x end b word e)
         (ap (λ u. after_turn u (λ s. turn_rows range_guard (λ s. range_turn s []) n s)) (number_turn x)
-        ∙ ap (Row (x ∷ [])) (ih (sum_of x 1) (omega arith) l.next))
-    range_some n x false e b h ih = rw (guard_false x (at_end x end b word h e), none_between x end e) refl
+        ∙ ap (Row (x ∷ [])) (ih (sum_of x 1) (omega arith) (next_not_above x end b word e)))
+    range_some n x false e b h ih = rw (guard_false x (neither_less x end b word e h), laws.range_is_over x end e) refl
 
     pub range_turns : (n x : ℕ) → x < 2 ^ 64 → is_less end x ≡ false → numbers_are n x
     range_turns zero x b h = range_none x (is_less x end) refl b h
@@ -130,31 +132,31 @@ module _ (env : List ℕ) (inputs : List Input) where
     next_turn : (s row : List ℕ) (go more : List ℕ → Rows) → length s ≡ m → length row ≡ length item → ((t : List ℕ) → length t ≡ m → go t ≡ more t) → after_turn (turn_end (run_acts (next_state (length env + m + length item) next) env inputs s row) unfold_item) go ≡ unless_broken (row_value next (env ++ s) inputs) (λ t. Row row (more t))
     next_turn s row go more hs hr e =
         let k : length (env ++ (s ++ row)) ≡ length env + m + length item = omega (arith, length-append env (s ++ row), length-append s row) in
-        state_turn env inputs next s row (length env + m + length item) unfold_item (λ t. row) go k
-        (row_within (length env + m) (length env + m + length item) (omega arith) next next_bound) (same ∙ sym hs)
+        state_turn laws env inputs next s row (length env + m + length item) unfold_item (λ t. row) go k
+        (laws.wider_row (length env + m) (length env + m + length item) next (omega arith) next_bound) (same ∙ sym hs)
         (λ t x q. variables_at inputs (env ++ t) row x (env ++ (t ++ (row ++ x))) (length env + m) (length item) (omega (arith, length-append env t, q, same)) hr (sym (append_assoc env t (row ++ x))))
         ∙ ap (λ g. unless_broken g (λ t. Row row (go t)))
         (ap (λ z. row_value next z inputs) (sym (append_assoc env s row))
-        ∙ row_before inputs next (env ++ s) row (subst (λ z. IsTrue (all_bound z next)) (omega (arith, length-append env s)) next_bound))
+        ∙ laws.same_row (env ++ s) row inputs next (subst (λ z. IsTrue (all_bound z next)) (omega (arith, length-append env s)) next_bound))
         ∙ by_state (row_value next (env ++ s) inputs) refl
       where
         by_state : (g : Got (List ℕ)) → row_value next (env ++ s) inputs ≡ g → unless_broken g (λ t. Row row (go t)) ≡ unless_broken g (λ t. Row row (more t))
-        by_state (Is t) q = ap (Row row) (e t (length_row_value inputs next (env ++ s) t q ∙ same))
+        by_state (Is t) q = ap (Row row) (e t (laws.row_length inputs (env ++ s) next t q ∙ same))
         by_state (Fails f) q = refl
 
     row_turn : (s : List ℕ) (go more : List ℕ → Rows) → length s ≡ m → ((t : List ℕ) → length t ≡ m → go t ≡ more t) → after_turn (unfold_turn s []) go ≡ unless_broken (row_value item (env ++ s) inputs) (λ r. unless_broken (row_value next (env ++ s) inputs) (λ t. Row r (more t)))
     row_turn s go more hs e =
         ap (λ u. after_turn (turn_end u unfold_item) go)
-        (run_lets env inputs item (next_state (length env + m + length item) next) s [] (subst (λ z. IsTrue (all_bound z item)) (omega (arith, length-append env (s ++ []), length-append s [])) items_bound)
+        (run_lets laws env inputs item (next_state (length env + m + length item) next) s [] (subst (λ z. IsTrue (all_bound z item)) (omega (arith, length-append env (s ++ []), length-append s [])) items_bound)
         ∙ ap (λ z. with_row (row_value item (env ++ z) inputs) (λ row. run_acts (next_state (length env + m + length item) next) env inputs s row)) (append-nil s))
         ∙ by_item (row_value item (env ++ s) inputs) refl
       where
         by_item : (g : Got (List ℕ)) → row_value item (env ++ s) inputs ≡ g → after_turn (turn_end (with_row g (λ row. run_acts (next_state (length env + m + length item) next) env inputs s row)) unfold_item) go ≡ unless_broken g (λ r. unless_broken (row_value next (env ++ s) inputs) (λ t. Row r (more t)))
-        by_item (Is row) q = next_turn s row go more hs (length_row_value inputs item (env ++ s) row q) e
+        by_item (Is row) q = next_turn s row go more hs (laws.row_length inputs (env ++ s) item row q) e
         by_item (Fails f) q = refl
 
     guarded : (s : List ℕ) (p q : Rows) → p ≡ q → choice (guard_value guard env inputs s) (Ends End) p ≡ unless_broken (value guard (env ++ s) inputs) (λ g. choice g (Ends End) q)
-    guarded s p q e = rw (undivided_value inputs (env ++ s) guard sure, e) refl
+    guarded s p q e = rw (undivided_value laws inputs (env ++ s) guard sure, e) refl
 
     pub unfold_turns : (n : ℕ) (s : List ℕ) → length s ≡ m → turn_rows (guard_value guard env inputs) (λ s. unfold_turn s []) n s ≡ unfold_rows (λ s. value guard (env ++ s) inputs) (λ s. row_value item (env ++ s) inputs) (λ s. row_value next (env ++ s) inputs) n s
     unfold_turns zero s h = guarded s (Ends Cut) (Ends Cut) refl

@@ -5,15 +5,17 @@ use Rattle.std.specs.List.{list_all}
 use Rattle.std.proofs.lemmas.Bool.{le-ltb}
 use Rattle.strm_num.proofs.Truths.{true_both}
 use Rattle.list_denotation.specs.Counts.{stream_ops, term_depth, row_depth, stream_depth}
+use Rattle.list_denotation.specs.InputNames.{InputNames}
 use Rattle.list_denotation.specs.Terms as stream
 use Rattle.list_denotation.specs.Terms.{Term, Lit, Truth, Var, Param, Len, Neg, Not, Bin, And, Or, If, Pipe}
 use Rattle.list_denotation.specs.Typing.{is_undivided, all_undivided}
 use Rattle.list_denotation.specs.Leaves.{all_leaves}
+use Rattle.denotation_laws.specs.StreamScopes.{StreamReadsScope}
 use Rattle.stateful_core.specs.CoreTerms.{Action, Let, KeepIf, StopUnless, Actions, Nil, Cons}
 use Rattle.stateful_core.specs.MostWords.{kept_aside, most_temps, row_temps, action_temps, actions_temps, core_temps, is_other_leaf, is_written_straight, action_words, actions_words, added_words}
 use Rattle.stateful_core.specs.StreamCores.{variables, let_all, set_state, next_state, test_acts, one_more, one_less, stream_width, core_at, is_chain}
-use Rattle.stateful_core.proofs.LongerScopes.{length_variables}
-use Rattle.stateful_core.specs.ScopedStreams.{IsScoped}
+use Rattle.stateful_core.proofs.StreamScopes.{narrow}
+use Rattle.stateful_core.proofs.Variables.{length_variables}
 
 -- ---- words
 
@@ -62,43 +64,27 @@ module _ (e : ℕ) where
       by_form true = omega (arith, is f)
       by_form false = omega (arith, is (Var k))
 
--- the rows of a chain have at most 8 words
-pub narrow : (p : Pipe) (e : ℕ) → IsTrue (is_chain p) → IsScoped e p → stream_width p ≤ 8
-narrow (stream.Array k) e c s = omega arith
-narrow (stream.Range a b) e c s = omega arith
-narrow (stream.Unfold seed guard item next) e c s = s.1.1.few
-narrow (stream.Map of body) e c s = s.1.few
-narrow (stream.Filter of body) e c s = narrow of e c s.0
-narrow (stream.Take of count) e c s = narrow of e c s.0
-narrow (stream.Drop of count) e c s = narrow of e c s.0
-narrow (stream.TakeWhile of body) e c s = narrow of e c s.0
-narrow (stream.Scan of seed next) e c s = omega (arith, s.1.same, s.1.follows.few)
-narrow (stream.FlatMap of inner) e c s = absurd cc
-narrow (stream.Zip left right) e c s = absurd cc
-
-pub ruleset chain_steps = (narrow)
-
-pub words_at : (p : Pipe) (e : ℕ) → IsTrue (is_chain p) → IsScoped e p → added_words (core_at e p) ≤ 32 * stream_ops p
-words_at (stream.Array k) e c s = omega (arith, words_set e (one_more e ∷ []))
-words_at (stream.Range a b) e c s = omega (arith, words_set e (one_more e ∷ []))
-words_at (stream.Unfold seed guard item next) e c s =
+pub words_at : (may : InputNames) (p : Pipe) (e : ℕ) → IsTrue (is_chain p) → StreamReadsScope may e p → added_words (core_at e p) ≤ 32 * stream_ops p
+words_at may (stream.Array k) e c s = omega (arith, words_set e (one_more e ∷ []))
+words_at may (stream.Range a b) e c s = omega (arith, words_set e (one_more e ∷ []))
+words_at may (stream.Unfold seed guard item next) e c s =
     let k = e + length seed + length item in
-    omega (arith, words_lets e item (next_state k next), words_state e k next (omega (arith, s.0.same)), length_variables (e + length seed) (length item), s.0.same, s.0.follows.few, s.1.1.few)
-words_at (stream.Map of body) e c s =
-    omega (arith, words_at of e c s.0, words_lets e body Nil, length_variables (e + stream_width of) (length body), s.1.few)
-words_at (stream.Filter of body) e c s =
-    omega (arith, words_at of e c s.0, words_test e KeepIf (λ f. refl) (e + stream_width of) body, length_variables e (stream_width of), narrow of e c s.0)
-words_at (stream.Take of count) e c s =
-    omega (arith, words_at of e c s.0, words_set e (one_less e ∷ []), length_variables (e + 1) (stream_width of), narrow of e c s.0)
-words_at (stream.Drop of count) e c s =
-    omega (arith, words_at of e c s.0, unless_straight (is_written_straight (e + 0) (one_less e ∷ [])) 1, length_variables (e + 1) (stream_width of), narrow of e c s.0)
-words_at (stream.TakeWhile of body) e c s =
-    omega (arith, words_at of e c s.0, words_test e StopUnless (λ f. refl) (e + stream_width of) body, length_variables e (stream_width of), narrow of e c s.0)
-words_at (stream.Scan of seed next) e c s =
+    omega (arith, words_lets e item (next_state k next), words_state e k next (omega (arith, s.same_width)), length_variables (e + length seed) (length item), s.same_width, s.next_reads.few, s.item_reads.few)
+words_at may (stream.Map of body) e c s =
+    omega (arith, words_at may of e c s.0, words_lets e body Nil, length_variables (e + stream_width of) (length body), s.1.few)
+words_at may (stream.Filter of body) e c s =
+    omega (arith, words_at may of e c s.0, words_test e KeepIf (λ f. refl) (e + stream_width of) body, length_variables e (stream_width of), narrow may of e s.0)
+words_at may (stream.Take of count) e c s =
+    omega (arith, words_at may of e c s.0, words_set e (one_less e ∷ []), length_variables (e + 1) (stream_width of), narrow may of e s.0)
+words_at may (stream.Drop of count) e c s =
+    omega (arith, words_at may of e c s.0, unless_straight (is_written_straight (e + 0) (one_less e ∷ [])) 1, length_variables (e + 1) (stream_width of), narrow may of e s.0)
+words_at may (stream.TakeWhile of body) e c s =
+    omega (arith, words_at may of e c s.0, words_test e StopUnless (λ f. refl) (e + stream_width of) body, length_variables e (stream_width of), narrow may of e s.0)
+words_at may (stream.Scan of seed next) e c s =
     let k = e + length seed + stream_width of in
-    omega (arith, words_at of e c s.0, words_state e k next (omega (arith, s.1.same)), length_variables e (length seed), s.1.same, s.1.follows.few)
-words_at (stream.FlatMap of inner) e c s = absurd cc
-words_at (stream.Zip left right) e c s = absurd cc
+    omega (arith, words_at may of e c s.0, words_state e k next (omega (arith, s.1.same_width)), length_variables e (length seed), s.1.same_width, s.1.next_reads.few)
+words_at may (stream.FlatMap of inner) e c s = absurd cc
+words_at may (stream.Zip left right) e c s = absurd cc
 
 -- ---- temporaries
 

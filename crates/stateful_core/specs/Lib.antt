@@ -12,5 +12,4 @@ pub mod WellFormed
 pub mod StreamCores
 pub mod CorePromise
 pub mod Laws
-pub mod ScopedStreams
 pub mod RowTests

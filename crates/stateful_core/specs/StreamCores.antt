@@ -91,7 +91,9 @@ scan_core e w of seed next = Tr e of seed always (next_state (e + length seed + 
 
 -- ---- streams
 
--- the words of a stream's rows
+-- the words of the rows of a stream's core. Those of a scan are the words of its state, which has as many as the seed. The
+-- width in denotation_laws counts the next state, whose words the denotation gives: the same for each stream that is typed,
+-- but a core has its width for any stream
 abbrev pub stream_width : Pipe → ℕ
 stream_width (stream.Array k) = 1
 stream_width (stream.Range a b) = 1

@@ -11,16 +11,25 @@ ghost use Rattle.stateful_core.specs.StreamCores.{is_chain};
 
 use crate::core_term::Core;
 use crate::stream_core::core_at;
-use list_denotation::{Program, typed_expressions_read_the_scope, typed_programs_keep_limits};
+use denotation_laws::{
+    expressions_read_bound_words_alone, ranges_and_counts_go_by_one, rows_have_their_width,
+    typed_streams_read_their_scopes, undivided_expressions_have_values, values_are_words,
+};
+use list_denotation::{Program, typed_programs_keep_limits};
 use std::alloc::Global;
 use strm_num::NoMemory;
 
-// What list_denotation promises of its definitions.
+// What the crates below promise of their definitions.
 fn laws_below()
     ensures { Laws }
 {
     typed_programs_keep_limits();
-    typed_expressions_read_the_scope();
+    typed_streams_read_their_scopes();
+    expressions_read_bound_words_alone();
+    undivided_expressions_have_values();
+    values_are_words();
+    rows_have_their_width();
+    ranges_and_counts_go_by_one();
 }
 
 /// The core of a program whose stream is a chain: a source and stages, no `flatMap` and no `zip`.

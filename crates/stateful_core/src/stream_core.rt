@@ -1,11 +1,13 @@
 //! The core of a stream: what each source and each stage becomes.
 
 ghost use Rattle.std.specs.Prelude.{◌≡◌, ◌+◌, ◌<◌, ◌≤◌, ◌^◌, [], ◌∷◌, length, IfOk, IsTrue};
+ghost use Rattle.pipe_limits.specs.declared.TheConstants.{MOST_COMPONENTS};
 ghost use Rattle.list_denotation.specs.Copies.{term_of, terms_of, pipe_of};
+ghost use Rattle.list_denotation.specs.InputNames.{InputNames};
+ghost use Rattle.denotation_laws.specs.StreamScopes.{StreamReadsScope};
 ghost use Rattle.stateful_core.specs.CoreTerms.{Lin, Tr};
 ghost use Rattle.stateful_core.specs.CoreCopies.{actions_of, core_term_of};
 ghost use Rattle.stateful_core.specs.RowTests.{test_action};
-ghost use Rattle.stateful_core.specs.ScopedStreams.{IsScoped};
 ghost use Rattle.stateful_core.specs.StreamCores.{rows_asked, drop_acts, array_core};
 ghost use Rattle.stateful_core.specs.StreamCores.{range_start, range_core};
 ghost use Rattle.stateful_core.specs.StreamCores.{unfold_core, map_core, test_core, take_core};
@@ -133,9 +135,9 @@ fn unfold_core(
     item: &Exprs,
     next: &Exprs,
 ) -> Result<Box<Core>, NoMemory>
-    requires seed { length (terms_of seed.now) ≤ 8 }
-    requires item { length (terms_of item.now) ≤ 8 }
-    requires next { length (terms_of next.now) ≤ 8 }
+    requires seed { length (terms_of seed.now) ≤ MOST_COMPONENTS }
+    requires item { length (terms_of item.now) ≤ MOST_COMPONENTS }
+    requires next { length (terms_of next.now) ≤ MOST_COMPONENTS }
     requires room { scope < 2 ^ 16 }
     ensures { IfOk result (λ made. core_term_of made.value
         ≡ unfold_core scope (terms_of seed.now) (term_of guard.now) (terms_of item.now)
@@ -159,8 +161,8 @@ fn map_core(
     of: Box<Core>,
     body: &Exprs,
 ) -> Result<Box<Core>, NoMemory>
-    requires body { length (terms_of body.now) ≤ 8 }
-    requires wide { wide ≤ 8 }
+    requires body { length (terms_of body.now) ≤ MOST_COMPONENTS }
+    requires wide { wide ≤ MOST_COMPONENTS }
     requires room { scope < 2 ^ 16 }
     ensures { IfOk result (λ made. core_term_of made.value
         ≡ map_core scope wide (core_term_of of.value) (terms_of body.now)) }
@@ -180,7 +182,7 @@ fn test_core(
     of: Box<Core>,
     body: &Expr,
 ) -> Result<Box<Core>, NoMemory>
-    requires wide { wide ≤ 8 }
+    requires wide { wide ≤ MOST_COMPONENTS }
     requires room { scope < 2 ^ 16 }
     ensures { IfOk result (λ made. core_term_of made.value
         ≡ test_core (test_action test) scope wide (core_term_of of.value) (term_of body.now)) }
@@ -210,7 +212,7 @@ fn take_core(
     of: Box<Core>,
     count: &Expr,
 ) -> Result<Box<Core>, NoMemory>
-    requires wide { wide ≤ 8 }
+    requires wide { wide ≤ MOST_COMPONENTS }
     requires room { scope < 2 ^ 16 }
     ensures { IfOk result (λ made. core_term_of made.value
         ≡ take_core scope wide (core_term_of of.value) (term_of count.now)) }
@@ -242,7 +244,7 @@ fn drop_core(
     of: Box<Core>,
     count: &Expr,
 ) -> Result<Box<Core>, NoMemory>
-    requires wide { wide ≤ 8 }
+    requires wide { wide ≤ MOST_COMPONENTS }
     requires room { scope < 2 ^ 16 }
     ensures { IfOk result (λ made. core_term_of made.value
         ≡ drop_core scope wide (core_term_of of.value) (term_of count.now)) }
@@ -263,9 +265,9 @@ fn scan_core(
     seed: &Exprs,
     next: &Exprs,
 ) -> Result<Box<Core>, NoMemory>
-    requires seed { length (terms_of seed.now) ≤ 8 }
-    requires next { length (terms_of next.now) ≤ 8 }
-    requires wide { wide ≤ 8 }
+    requires seed { length (terms_of seed.now) ≤ MOST_COMPONENTS }
+    requires next { length (terms_of next.now) ≤ MOST_COMPONENTS }
+    requires wide { wide ≤ MOST_COMPONENTS }
     requires room { scope < 2 ^ 16 }
     ensures { IfOk result (λ made. core_term_of made.value
         ≡ scan_core scope wide (core_term_of of.value) (terms_of seed.now) (terms_of next.now)) }
@@ -299,10 +301,10 @@ fn stream_width(s: &Stream) -> u32
 }
 
 /// The core of a stream in a scope of so many bound words.
-#[tactic(auto, using(crate::proofs::WordCounts::chain_steps))]
+#[tactic(auto, using(crate::proofs::StreamScopes::scope_steps))]
 pub fn core_at(alloc: Global, s: &Stream, scope: u32) -> Result<Box<Core>, NoMemory>
     requires chain { IsTrue (is_chain (pipe_of s.now)) }
-    requires scoped { IsScoped scope (pipe_of s.now) }
+    requires scoped { (may : InputNames) × StreamReadsScope may scope (pipe_of s.now) }
     requires room { scope < 2 ^ 16 }
     ensures { IfOk result (λ made. core_term_of made.value ≡ core_at scope (pipe_of s.now)) }
 {

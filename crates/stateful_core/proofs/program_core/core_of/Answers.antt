@@ -1,6 +1,7 @@
 use Rattle.std.proofs.Common.{sym, ap, ◌∙◌, subst}
 use Rattle.std.specs.Prelude.{IsTrue}
 use Rattle.list_denotation.specs.Copies.{pipe_of}
+use Rattle.list_denotation.specs.InputNames.{declared_inputs}
 use Rattle.list_denotation.specs.Pipelines.{pipeline_of}
 use Rattle.stateful_core.specs.CoreCopies.{core_term_of}
 use Rattle.stateful_core.specs.CorePromise.{IsCoreOf}
@@ -11,7 +12,8 @@ use Rattle.stateful_core.proofs.CoreWidths.{flat_at}
 use Rattle.stateful_core.proofs.program_core.core_of.Goals as goal
 
 pub core_at-requires-clause-scoped : goal.core_at-requires-clause-scoped
-core_at-requires-clause-scoped c = let p = c.args.p.now in core_scoped c.laws_below.ensures p p.typed p.words c.requires
+core_at-requires-clause-scoped c =
+    let p = c.args.p.now in (declared_inputs p.inputs, core_scoped c.laws_below.ensures p p.typed p.words c.requires)
 
 pub returns-clause-core : goal.returns-clause-core
 returns-clause-core c =
