@@ -93,10 +93,10 @@ when_copy e a b = search (rules, the_lemmas)
 keep_copy : (e : Expr) → action_of (act.KeepIf e) ≡ KeepIf (term_of e)
 keep_copy e = search (rules, the_lemmas)
 
-pub drop_made : (first : List Act) (k : ℕ) (es : List Expr) → actions_of first ≡ set_state (terms_of es) → terms_of es ≡ one_less k ∷ [] → actions_of ([] ++ act.When (expr.Var k) (first ++ act.KeepIf (expr.Truth false) ∷ []) [] ∷ []) ≡ drop_acts k
-drop_made first k es h q =
+pub drop_made : (first : List Act) (k : ℕ) → actions_of first ≡ set_state (one_less k ∷ []) → actions_of ([] ++ act.When (expr.Var k) (first ++ act.KeepIf (expr.Truth false) ∷ []) [] ∷ []) ≡ drop_acts k
+drop_made first k h =
     ap (λ z. Cons z Nil)
     (when_copy (expr.Var k) (first ++ act.KeepIf (expr.Truth false) ∷ []) []
     ∙ ap (λ z. When (Var k) z Nil)
-    (act_push first (act.KeepIf (expr.Truth false)) ∙ ap (λ z. join z (Cons (action_of (act.KeepIf (expr.Truth false))) Nil)) (h ∙ ap set_state q)
+    (act_push first (act.KeepIf (expr.Truth false)) ∙ ap (λ z. join z (Cons (action_of (act.KeepIf (expr.Truth false))) Nil)) h
     ∙ ap (λ z. Cons (Update 0 (one_less k ∷ [])) (Cons z Nil)) (keep_copy (expr.Truth false))))

@@ -30,16 +30,6 @@ pub fn single(alloc: Global, e: Box<Expr>) -> Result<Exprs, NoMemory>
     Ok(made)
 }
 
-/// Bound word k, and one more or less, by the operator.
-pub fn step(alloc: Global, op: BinOp, k: u32) -> Result<Exprs, NoMemory>
-    ensures { IfOk result (λ made. terms_of made ≡ Bin op (Var k) (Lit 1) ∷ []) }
-{
-    let word = boxed(alloc, Expr::Var(k))?;
-    let one = boxed(alloc, Expr::Lit(1))?;
-    let sum = boxed(alloc, Expr::Bin(op, word, one))?;
-    single(alloc, sum)
-}
-
 /// Appends a local word for each expression of a row. The one error is `NoMemory`.
 #[tactic(auto, using(crate::proofs::AppendedActs::let_steps))]
 pub fn push_lets(alloc: Global, es: &Exprs, acts: &mut Acts) -> Result<(), NoMemory>
@@ -59,6 +49,17 @@ pub fn push_set(es: Exprs, acts: &mut Acts) -> Result<(), NoMemory>
         ≡ join (actions_of acts.old) (set_state (terms_of es))) }
 {
     acts.push(Act::Update(0, es))
+}
+
+/// Appends the act that counts bound word k, the state, up or down by one, by the operator.
+pub fn push_count(alloc: Global, op: BinOp, k: u32, acts: &mut Acts) -> Result<(), NoMemory>
+    ensures { OnOk result (actions_of acts.new
+        ≡ join (actions_of acts.old) (set_state (Bin op (Var k) (Lit 1) ∷ []))) }
+{
+    let word = boxed(alloc, Expr::Var(k))?;
+    let one = boxed(alloc, Expr::Lit(1))?;
+    let next = boxed(alloc, Expr::Bin(op, word, one))?;
+    push_set(single(alloc, next)?, acts)
 }
 
 /// Appends the acts that write a row over the state, where k words are bound.

@@ -5,16 +5,19 @@ ghost use Rattle.pipe_limits.specs.declared.TheConstants.{MOST_COMPONENTS};
 ghost use Rattle.list_denotation.specs.Copies.{term_of, terms_of, pipe_of};
 ghost use Rattle.list_denotation.specs.InputNames.{InputNames};
 ghost use Rattle.denotation_laws.specs.StreamScopes.{StreamReadsScope};
-ghost use Rattle.stateful_core.specs.CoreTerms.{Lin, Tr};
-ghost use Rattle.stateful_core.specs.CoreCopies.{actions_of, core_term_of};
+ghost use Rattle.list_denotation.specs.declared.expr.BinOp.TheVariants.{Ne};
+ghost use Rattle.list_denotation.specs.Terms.{Bin, Var};
+ghost use Rattle.stateful_core.specs.CoreTerms.{Cons, Lin, Tr};
+ghost use Rattle.stateful_core.specs.CoreCopies.{action_of, actions_of, core_term_of};
 ghost use Rattle.stateful_core.specs.RowTests.{test_action};
+ghost use Rattle.stateful_core.specs.StreamCores.{variables, set_state, one_more};
 ghost use Rattle.stateful_core.specs.StreamCores.{rows_asked, drop_acts, array_core};
 ghost use Rattle.stateful_core.specs.StreamCores.{range_start, range_core};
 ghost use Rattle.stateful_core.specs.StreamCores.{unfold_core, map_core, test_core, take_core};
 ghost use Rattle.stateful_core.specs.StreamCores.{drop_core, scan_core, core_at};
 ghost use Rattle.stateful_core.specs.StreamCores.{stream_width, is_chain};
 
-use crate::acts::{RowTest, push_lets, push_set, push_state, row_test, single, step};
+use crate::acts::{RowTest, push_count, push_lets, push_state, row_test, single};
 use crate::core_term::{Act, Acts, Core};
 use crate::expressions::{boxed, copies, copy, variables};
 use list_denotation::{BinOp, Expr, Exprs, Stream};
@@ -72,20 +75,36 @@ fn stage(
     )?)
 }
 
+/// A source whose state is a word that goes up by one, to an end. An act gives the word of its row.
+fn counting_source(
+    alloc: Global,
+    scope: u32,
+    start: Box<Expr>,
+    end: Box<Expr>,
+    first: Act,
+) -> Result<Box<Core>, NoMemory>
+    requires { scope + 2 < 2 ^ 32 }
+    ensures { IfOk result (λ made. core_term_of made.value
+        ≡ Lin scope (term_of start.value ∷ []) (Bin Ne (Var scope) (term_of end.value))
+        (Cons (action_of first) (set_state (one_more scope ∷ []))) (Var (scope + 1) ∷ [])) }
+{
+    let mut acts = List::new(alloc);
+    acts.push(first)?;
+    push_count(alloc, BinOp::Add, scope, &mut acts)?;
+    let state = boxed(alloc, Expr::Var(scope))?;
+    let guard = boxed(alloc, Expr::Bin(BinOp::Ne, state, end))?;
+    let init = single(alloc, start)?;
+    let item = variables(alloc, scope + 1, 1)?;
+    source(alloc, scope, init, guard, acts, item)
+}
+
 fn array_core(alloc: Global, scope: u32, k: u32) -> Result<Box<Core>, NoMemory>
     requires { scope + 2 < 2 ^ 32 }
     ensures { IfOk result (λ made. core_term_of made.value ≡ array_core scope k) }
 {
-    let zero = boxed(alloc, Expr::Lit(0))?;
-    let init = single(alloc, zero)?;
-    let index = boxed(alloc, Expr::Var(scope))?;
-    let len = boxed(alloc, Expr::Len(k))?;
-    let guard = boxed(alloc, Expr::Bin(BinOp::Ne, index, len))?;
-    let mut acts = List::new(alloc);
-    acts.push(Act::Read(k, Expr::Var(scope)))?;
-    push_set(step(alloc, BinOp::Add, scope)?, &mut acts)?;
-    let item = variables(alloc, scope + 1, 1)?;
-    source(alloc, scope, init, guard, acts, item)
+    let start = boxed(alloc, Expr::Lit(0))?;
+    let end = boxed(alloc, Expr::Len(k))?;
+    counting_source(alloc, scope, start, end, Act::Read(k, Expr::Var(scope)))
 }
 
 fn range_start(alloc: Global, low: &Expr, high: &Expr) -> Result<Box<Expr>, NoMemory>
@@ -106,15 +125,8 @@ fn range_core(alloc: Global, scope: u32, low: &Expr, high: &Expr) -> Result<Box<
         ≡ range_core scope (term_of low.now) (term_of high.now)) }
 {
     let start = range_start(alloc, low, high)?;
-    let init = single(alloc, start)?;
-    let number = boxed(alloc, Expr::Var(scope))?;
     let end = copy(alloc, high)?;
-    let guard = boxed(alloc, Expr::Bin(BinOp::Ne, number, end))?;
-    let mut acts = List::new(alloc);
-    acts.push(Act::Let(Expr::Var(scope)))?;
-    push_set(step(alloc, BinOp::Add, scope)?, &mut acts)?;
-    let item = variables(alloc, scope + 1, 1)?;
-    source(alloc, scope, init, guard, acts, item)
+    counting_source(alloc, scope, start, end, Act::Let(Expr::Var(scope)))
 }
 
 /// The words of a row.
@@ -205,6 +217,27 @@ fn rows_asked(alloc: Global, count: &Expr) -> Result<Exprs, NoMemory>
     single(alloc, asked)
 }
 
+/// A stage whose state is how many rows of those that are asked for are left.
+fn counted_stage(
+    alloc: Global,
+    scope: u32,
+    wide: u32,
+    of: Box<Core>,
+    count: &Expr,
+    guard: Box<Expr>,
+    acts: Acts,
+) -> Result<Box<Core>, NoMemory>
+    requires wide { wide ≤ MOST_COMPONENTS }
+    requires room { scope < 2 ^ 16 }
+    ensures { IfOk result (λ made. core_term_of made.value
+        ≡ Tr scope (core_term_of of.value) (rows_asked (term_of count.now) ∷ [])
+        (term_of guard.value) (actions_of acts) (variables (scope + 1) wide)) }
+{
+    let init = rows_asked(alloc, count)?;
+    let row = variables(alloc, scope + 1, wide)?;
+    stage(alloc, scope, of, init, guard, acts, row)
+}
+
 fn take_core(
     alloc: Global,
     scope: u32,
@@ -217,12 +250,10 @@ fn take_core(
     ensures { IfOk result (λ made. core_term_of made.value
         ≡ take_core scope wide (core_term_of of.value) (term_of count.now)) }
 {
-    let init = rows_asked(alloc, count)?;
-    let row = variables(alloc, scope + 1, wide)?;
     let guard = boxed(alloc, Expr::Var(scope))?;
     let mut acts = List::new(alloc);
-    push_set(step(alloc, BinOp::Sub, scope)?, &mut acts)?;
-    stage(alloc, scope, of, init, guard, acts, row)
+    push_count(alloc, BinOp::Sub, scope, &mut acts)?;
+    counted_stage(alloc, scope, wide, of, count, guard, acts)
 }
 
 #[tactic(auto, using(crate::proofs::AppendedActs::drop_made))]
@@ -230,7 +261,7 @@ fn drop_acts(alloc: Global, k: u32) -> Result<Acts, NoMemory>
     ensures { IfOk result (λ made. actions_of made ≡ drop_acts k) }
 {
     let mut inside = List::new(alloc);
-    push_set(step(alloc, BinOp::Sub, k)?, &mut inside)?;
+    push_count(alloc, BinOp::Sub, k, &mut inside)?;
     inside.push(Act::KeepIf(Expr::Truth(false)))?;
     let mut acts = List::new(alloc);
     acts.push(Act::When(Expr::Var(k), inside, List::new(alloc)))?;
@@ -249,11 +280,9 @@ fn drop_core(
     ensures { IfOk result (λ made. core_term_of made.value
         ≡ drop_core scope wide (core_term_of of.value) (term_of count.now)) }
 {
-    let init = rows_asked(alloc, count)?;
-    let row = variables(alloc, scope + 1, wide)?;
     let guard = boxed(alloc, Expr::Truth(true))?;
     let acts = drop_acts(alloc, scope)?;
-    stage(alloc, scope, of, init, guard, acts, row)
+    counted_stage(alloc, scope, wide, of, count, guard, acts)
 }
 
 #[tactic(auto, using(crate::proofs::AppendedActs::row_steps))]
@@ -273,9 +302,9 @@ fn scan_core(
         ≡ scan_core scope wide (core_term_of of.value) (terms_of seed.now) (terms_of next.now)) }
 {
     let init = copies(alloc, seed)?;
-    let row = variables(alloc, scope, width(seed))?;
     let guard = boxed(alloc, Expr::Truth(true))?;
     let mut acts = List::new(alloc);
+    let row = variables(alloc, scope, width(seed))?;
     push_state(alloc, scope + width(seed) + wide, next, &mut acts)?;
     stage(alloc, scope, of, init, guard, acts, row)
 }
