@@ -25,7 +25,7 @@ use Rattle.stateful_core.specs.Laws.{Laws}
 use Rattle.stateful_core.proofs.RunningActs.{with_row, run_lets, state_turn}
 use Rattle.stateful_core.proofs.UndividedValues.{undivided_value}
 use Rattle.stateful_core.proofs.Variables.{word_behind, variables_at}
-use Rattle.stateful_core.proofs.WordOrder.{not_less_itself, next_not_above, neither_less}
+use Rattle.stateful_core.proofs.WordOrder.{less_apart, next_not_above, neither_less}
 
 module _ (laws : Laws) (env : List ℕ) (inputs : List Input) where
   -- the row is the first local word behind a state of one word
@@ -101,17 +101,13 @@ module _ (laws : Laws) (env : List ℕ) (inputs : List Input) where
     abbrev numbers_are : ℕ → ℕ → Type 0
     numbers_are n x = turn_rows range_guard (λ s. range_turn s []) n (x ∷ []) ≡ firsts n (single_rows (words_between x end))
 
-    -- a word below the end isn't the end
-    not_at_end : (x : ℕ) → is_less x end ≡ true → x ≡ end → ⊥
-    not_at_end x e q = let h : is_less end end ≡ true = subst (λ y. is_less y end ≡ true) q e in let k = not_less_itself end in absurd cc
-
     range_none : (x : ℕ) (t : Bool) → is_less x end ≡ t → x < 2 ^ 64 → is_less end x ≡ false → numbers_are 0 x
-    range_none x true e b h = rw (guard_true x (not_at_end x e), laws.range_goes_on x end b word e) refl
+    range_none x true e b h = rw (guard_true x (less_apart x end e), laws.range_goes_on x end b word e) refl
     range_none x false e b h = rw (guard_false x (neither_less x end b word e h), laws.range_is_over x end e) refl
 
     range_some : (n x : ℕ) (t : Bool) → is_less x end ≡ t → x < 2 ^ 64 → is_less end x ≡ false → ((y : ℕ) → y < 2 ^ 64 → is_less end y ≡ false → numbers_are n y) → numbers_are (suc n) x
     range_some n x true e b h ih =
-        rw (guard_true x (not_at_end x e), laws.range_goes_on x end b word e)
+        rw (guard_true x (less_apart x end e), laws.range_goes_on x end b word e)
         (ap (λ u. after_turn u (λ s. turn_rows range_guard (λ s. range_turn s []) n s)) (number_turn x)
         ∙ ap (Row (x ∷ [])) (ih (sum_of x 1) (omega arith) (next_not_above x end b word e)))
     range_some n x false e b h ih = rw (guard_false x (neither_less x end b word e h), laws.range_is_over x end e) refl

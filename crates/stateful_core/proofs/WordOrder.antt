@@ -1,5 +1,5 @@
 -- Words in the order of their signed values: steps of one towards an end, and counts.
-use Rattle.std.proofs.Common.{◌≡◌, ℕ, ◌^◌, ◌<◌, arith, true, false}
+use Rattle.std.proofs.Common.{◌≡◌, ◌≢◌, ℕ, ◌^◌, ◌<◌, arith, true, false}
 use Rattle.std.proofs.lemmas.Grind.{common_steps}
 use Rattle.std.proofs.lemmas.Int.{ints}
 use Rattle.strm_num.specs.Words.{signed, sum_of, is_less, truth_of}
@@ -8,6 +8,9 @@ use Rattle.list_denotation.specs.Denotation.{count_of}
 
 pub not_less_itself : (x : ℕ) → is_less x x ≡ false
 not_less_itself x = grind (arith, ints, common_steps)
+
+pub less_apart : (x y : ℕ) → is_less x y ≡ true → x ≢ y
+less_apart x y h q = grind (arith, ints, common_steps)
 
 pub not_both_less : (x y : ℕ) → is_less x y ≡ true → is_less y x ≡ false
 not_both_less x y h = grind (arith, ints, common_steps)
