@@ -2,11 +2,11 @@
 
 ghost use Rattle.std.specs.Prelude.{◌≡◌, ◌+◌, ◌<◌, ◌≤◌, ◌^◌, [], ◌∷◌, length, IfOk, IsTrue};
 ghost use Rattle.pipe_limits.specs.declared.TheConstants.{MOST_COMPONENTS};
+ghost use Rattle.list_denotation.specs.declared.expr.BinOp.TheVariants.{Ne};
 ghost use Rattle.list_denotation.specs.Copies.{term_of, terms_of, pipe_of};
 ghost use Rattle.list_denotation.specs.InputNames.{InputNames};
-ghost use Rattle.denotation_laws.specs.StreamScopes.{StreamReadsScope};
-ghost use Rattle.list_denotation.specs.declared.expr.BinOp.TheVariants.{Ne};
 ghost use Rattle.list_denotation.specs.Terms.{Bin, Var};
+ghost use Rattle.denotation_laws.specs.StreamScopes.{StreamReadsScope};
 ghost use Rattle.stateful_core.specs.CoreTerms.{Cons, Lin, Tr};
 ghost use Rattle.stateful_core.specs.CoreCopies.{action_of, actions_of, core_term_of};
 ghost use Rattle.stateful_core.specs.RowTests.{test_action};
