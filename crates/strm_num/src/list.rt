@@ -82,6 +82,15 @@ impl<T: Drop> List<T> {
         self.items.push(item)?;
         Ok(())
     }
+
+    /// Moves all items of another list to the end. A refused call changes nothing and drops them.
+    pub fn append(&mut self, mut more: List<T>) -> Result<(), NoMemory>
+        ensures ok { OnOk result (self.new ≡ self.old ++ more) }
+        ensures err { OnErr result (self.new ≡ self.old) }
+    {
+        self.items.append(&mut more.items)?;
+        Ok(())
+    }
 }
 
 impl<T: Copy> List<T> {
