@@ -193,9 +193,9 @@ module _ (scope : Scope) (e : Term) (target : ℕ) (plain : IsTrue (is_plain e))
 pub plain_stands : (laws : Laws) (rows words : List ℕ) (inputs : List Input) (env : List ℕ) (e : Term) → IsTrue (is_plain e) → IsTrue (has_words e) → WordsInPlace rows words inputs env e → StandsFor words inputs env e (plain_word rows e)
 plain_stands laws rows words inputs env e plain has in_place = record {
   x = plain_value e words inputs;
-  value = value_plain e words inputs plain;
-  word = plain_is_word rows words inputs e env plain (word_leaves e has) in_place;
-  is = plain_holds rows words inputs laws e env plain in_place;
+  value = value_plain laws words inputs e plain;
+  word = plain_is_word laws rows words inputs env e plain (word_leaves e has) in_place;
+  is = plain_holds laws rows words inputs env e plain in_place;
 }
 
 -- ---- of what the code gives

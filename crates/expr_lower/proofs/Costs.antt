@@ -1,5 +1,5 @@
 -- How many statements and temporaries an expression takes.
-use Rattle.std.proofs.Common.{◌≡◌, ℕ, ◌+◌, ◌*◌, ◌<◌, ◌≤◌, max, List, Option, Bool, true, false, ◌&&◌, refl, arith}
+use Rattle.std.proofs.Common.{◌≡◌, ℕ, zero, suc, ◌+◌, ◌*◌, ◌<◌, ◌≤◌, max, List, Option, Some, None, Bool, true, false, ◌&&◌, refl, arith}
 use Rattle.std.specs.Prelude.{if◌then◌else◌}
 use Rattle.list_denotation.specs.declared.expr.BinOp.{BinOp}
 use Rattle.list_denotation.specs.declared.expr.BinOp.TheVariants as sign
@@ -10,10 +10,11 @@ use Rattle.loop_ir.specs.Statements as s
 use Rattle.loop_ir.specs.Statements.{Operand, Test, Set, Block, Nil, Cons, join}
 use Rattle.loop_ir.specs.Counts.{block_count, block_loops}
 use Rattle.expr_phrases.specs.Phrases.{Division, set, set_truth, by_divisor, Connective, Conjunction, Disjunction, connected_test, connected_block}
-use Rattle.expr_phrases.specs.Simple.{is_simple}
-use Rattle.expr_lower.specs.Lowering.{Form, AWord, ATest, InTarget, Lowered, is_word, operand_rest, operand_block, target_rest, into, as_word, in_target, lowered_minus, lowered_arithmetic, lowered_comparison, division_operand_block, lowered_division, lowered_operation, condition_in, condition_of, is_empty, lowered_connective, lowered_term, lowered_into, lowered_test}
+use Rattle.expr_constants.specs.Constants.{constant_of}
+use Rattle.expr_constants.specs.Simple.{is_simple}
+use Rattle.expr_lower.specs.Lowering.{Form, AWord, ATest, InTarget, Lowered, is_word, operand_rest, operand_block, target_rest, into, as_word, in_target, lowered_minus, lowered_arithmetic, lowered_comparison, division_operand_block, lowered_division, lowered_operation, condition_in, condition_of, is_empty, lowered_connective, lowered_connected, lowered_chosen, folded, lowered_parts, lowered_term, lowered_into, lowered_test}
 use Rattle.expr_lower.specs.Laws.{Laws}
-use Rattle.expr_lower.specs.Costs.{operation_cost, cost, is_direct, temps_of}
+use Rattle.expr_lower.specs.Costs.{operation_cost, cost, is_direct, unless_constant, connected_temps, chosen_temps, parts_temps, temps_of}
 use Rattle.loop_ir.proofs.JoinedBlocks.{count_join, loops_join}
 
 -- ---- statements
@@ -109,17 +110,66 @@ module _ (size : Block → ℕ) (u : ℕ) (is : IsSize size u) where
       (omega (arith, block_within a v))
       (omega (arith, connected_size o first second v, is.of_join b.block truth, truth_size v (condition_in b.form v), block_within a v, block_within b v))
 
+  connected_first : (o : Connective) (first : Option ℕ) (a b : Lowered) (v : ℕ) → size (into (lowered_connected o first (condition_of a v) (condition_of b v) v) v) ≤ size (into a v) + size (into b v) + u * 5
+  connected_first o (Some c) a b v = omega (arith, is.of_join, truth_size, block_within b v)
+  connected_first o None a b v = connective_size o a b v
+
+  choice_size : (condition : Option ℕ) (c a b : Lowered) (v : ℕ) → size (into (lowered_chosen condition (condition_of c v) a b v) v) ≤ size (into c v) + size (into a v) + size (into b v) + u
+  choice_size (Some zero) c a b v = omega arith
+  choice_size (Some (suc x)) c a b v = omega arith
+  choice_size None c a b v = omega (arith, is.of_join, is.of_nil, if_size, block_within c v)
+
+  -- an expression costs one statement at least
+  one_within : (e : Term) → u ≤ u * cost e
+  one_within (Bin o a b) = omega (arith, one_within a)
+  one_within (If c a b) = omega arith
+  one_within _ = omega arith
+
+  -- a constant takes one
+  folded_size : (k : Option ℕ) (l : Lowered) (v n : ℕ) → u ≤ n → size (into l v) ≤ n → size (into (folded k l) v) ≤ n
+  folded_size (Some c) l v n one h = omega (arith, is.of_join, is.of_nil, set_size)
+  folded_size None l v n one h = h
+
   -- the size of an expression's statements is within its cost
+  parts_within : (rows : List ℕ) (e : Term) (v t : ℕ) → size (into (lowered_parts rows e v t) v) ≤ u * cost e
+  parts_within rows (Neg a) v t =
+      omega (arith, minus_size (lowered_term rows a v t) v, folded_size (constant_of a) (lowered_parts rows a v t) v (u * cost a) (one_within a) (parts_within rows a v t))
+  parts_within rows (Not a) v t =
+      omega (arith, is.of_join, truth_size, block_within (lowered_term rows a v t) v, folded_size (constant_of a) (lowered_parts rows a v t) v (u * cost a) (one_within a) (parts_within rows a v t))
+  parts_within rows (Bin o a b) v t =
+      omega (
+        arith,
+        operation_size o a b (lowered_term rows a v t) (lowered_term rows b t (t + 1)) v t,
+        folded_size (constant_of a) (lowered_parts rows a v t) v (u * cost a) (one_within a) (parts_within rows a v t),
+        folded_size (constant_of b) (lowered_parts rows b t (t + 1)) t (u * cost b) (one_within b) (parts_within rows b t (t + 1)),
+      )
+  parts_within rows (And a b) v t =
+      omega (
+        arith,
+        connected_first Conjunction (constant_of a) (lowered_term rows a v t) (lowered_term rows b v t) v,
+        folded_size (constant_of a) (lowered_parts rows a v t) v (u * cost a) (one_within a) (parts_within rows a v t),
+        folded_size (constant_of b) (lowered_parts rows b v t) v (u * cost b) (one_within b) (parts_within rows b v t),
+      )
+  parts_within rows (Or a b) v t =
+      omega (
+        arith,
+        connected_first Disjunction (constant_of a) (lowered_term rows a v t) (lowered_term rows b v t) v,
+        folded_size (constant_of a) (lowered_parts rows a v t) v (u * cost a) (one_within a) (parts_within rows a v t),
+        folded_size (constant_of b) (lowered_parts rows b v t) v (u * cost b) (one_within b) (parts_within rows b v t),
+      )
+  parts_within rows (If c a b) v t =
+      omega (
+        arith,
+        choice_size (constant_of c) (lowered_term rows c v t) (lowered_term rows a v t) (lowered_term rows b v t) v,
+        folded_size (constant_of c) (lowered_parts rows c v t) v (u * cost c) (one_within c) (parts_within rows c v t),
+        folded_size (constant_of a) (lowered_parts rows a v t) v (u * cost a) (one_within a) (parts_within rows a v t),
+        folded_size (constant_of b) (lowered_parts rows b v t) v (u * cost b) (one_within b) (parts_within rows b v t),
+      )
+  parts_within rows _ v t = omega (arith, is.of_join, is.of_nil, set_size)
+
   size_within : (rows : List ℕ) (e : Term) (v t : ℕ) → size (lowered_into rows e v t) ≤ u * cost e
-  size_within rows (Neg a) v t = omega (arith, minus_size (lowered_term rows a v t) v, size_within rows a v t)
-  size_within rows (Not a) v t = omega (arith, is.of_join, truth_size, block_within (lowered_term rows a v t) v, size_within rows a v t)
-  size_within rows (Bin o a b) v t =
-      omega (arith, operation_size o a b (lowered_term rows a v t) (lowered_term rows b t (t + 1)) v t, size_within rows a v t, size_within rows b t (t + 1))
-  size_within rows (And a b) v t = omega (arith, connective_size Conjunction (lowered_term rows a v t) (lowered_term rows b v t) v, size_within rows a v t, size_within rows b v t)
-  size_within rows (Or a b) v t = omega (arith, connective_size Disjunction (lowered_term rows a v t) (lowered_term rows b v t) v, size_within rows a v t, size_within rows b v t)
-  size_within rows (If c a b) v t =
-      omega (arith, is.of_join, is.of_nil, if_size, block_within (lowered_term rows c v t) v, size_within rows c v t, size_within rows a v t, size_within rows b v t)
-  size_within rows _ v t = omega (arith, is.of_join, is.of_nil, set_size)
+  size_within rows e v t =
+      folded_size (constant_of e) (lowered_parts rows e v t) v (u * cost e) (one_within e) (parts_within rows e v t)
 
 count_size : Laws → IsSize block_count 1
 count_size laws = record {
@@ -195,12 +245,50 @@ kept_few o a b n kept le = by_kept (is_direct o b) kept le
     by_kept true kept le = absurd cc
     by_kept false kept le = omega arith
 
+fewer_unless : (k : Option ℕ) (m n : ℕ) → m ≤ n → unless_constant k m ≤ n
+fewer_unless (Some c) m n h = omega arith
+fewer_unless None m n h = h
+
+connected_depth : (first : Option ℕ) (m n p q : ℕ) → m ≤ p → n ≤ q → connected_temps first m n ≤ max p q
+connected_depth (Some c) m n p q h k = omega arith
+connected_depth None m n p q h k = omega arith
+
+chosen_depth : (condition : Option ℕ) (l m n p q r : ℕ) → l ≤ p → m ≤ q → n ≤ r → chosen_temps condition l m n ≤ max p (max q r)
+chosen_depth (Some zero) l m n p q r h j k = omega arith
+chosen_depth (Some (suc x)) l m n p q r h j k = omega arith
+chosen_depth None l m n p q r h j k = omega arith
+
 -- at most one for each level of depth
+parts_depth : (e : Term) → parts_temps e ≤ term_depth e
+parts_depth (Neg a) = omega (arith, fewer_unless (constant_of a) (parts_temps a) (term_depth a) (parts_depth a))
+parts_depth (Not a) = omega (arith, fewer_unless (constant_of a) (parts_temps a) (term_depth a) (parts_depth a))
+parts_depth (Bin o a b) =
+    omega (
+      arith,
+      fewer_unless (constant_of a) (parts_temps a) (term_depth a) (parts_depth a),
+      fewer_unless (constant_of b) (parts_temps b) (term_depth b) (parts_depth b),
+      kept_within (is_direct o b) (temps_of b),
+    )
+parts_depth (And a b) =
+    omega (
+      arith,
+      connected_depth (constant_of a) (temps_of a) (temps_of b) (term_depth a) (term_depth b)
+          (fewer_unless (constant_of a) (parts_temps a) (term_depth a) (parts_depth a)) (fewer_unless (constant_of b) (parts_temps b) (term_depth b) (parts_depth b)),
+    )
+parts_depth (Or a b) =
+    omega (
+      arith,
+      connected_depth (constant_of a) (temps_of a) (temps_of b) (term_depth a) (term_depth b)
+          (fewer_unless (constant_of a) (parts_temps a) (term_depth a) (parts_depth a)) (fewer_unless (constant_of b) (parts_temps b) (term_depth b) (parts_depth b)),
+    )
+parts_depth (If c a b) =
+    omega (
+      arith,
+      chosen_depth (constant_of c) (temps_of c) (temps_of a) (temps_of b) (term_depth c) (term_depth a) (term_depth b)
+          (fewer_unless (constant_of c) (parts_temps c) (term_depth c) (parts_depth c)) (fewer_unless (constant_of a) (parts_temps a) (term_depth a) (parts_depth a))
+          (fewer_unless (constant_of b) (parts_temps b) (term_depth b) (parts_depth b)),
+    )
+parts_depth _ = omega arith
+
 pub temps_depth : (e : Term) → temps_of e ≤ term_depth e
-temps_depth (Neg a) = omega (arith, temps_depth a)
-temps_depth (Not a) = omega (arith, temps_depth a)
-temps_depth (Bin o a b) = omega (arith, temps_depth a, temps_depth b, kept_within (is_direct o b) (temps_of b))
-temps_depth (And a b) = omega (arith, temps_depth a, temps_depth b)
-temps_depth (Or a b) = omega (arith, temps_depth a, temps_depth b)
-temps_depth (If c a b) = omega (arith, temps_depth c, temps_depth a, temps_depth b)
-temps_depth _ = omega arith
+temps_depth e = fewer_unless (constant_of e) (parts_temps e) (term_depth e) (parts_depth e)

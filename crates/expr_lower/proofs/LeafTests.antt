@@ -1,8 +1,7 @@
 -- The constants and the names in the statements of an expression: leaves, each of which passes a test where the leaves of the
 -- expression, its target, its temporaries and all word constants do.
-use Rattle.std.proofs.Common.{◌≡◌, ℕ, ◌+◌, ◌-◌, ◌<◌, ◌≤◌, ◌^◌, max, List, Bool, true, false, ◌&&◌, refl, sym, ◌∙◌, arith}
-use Rattle.std.specs.Prelude.{IsTrue, if◌then◌else◌, slice_index}
-use Rattle.std.proofs.Math.Nat.{mod-lt}
+use Rattle.std.proofs.Common.{◌≡◌, ℕ, zero, suc, ◌+◌, ◌<◌, ◌≤◌, max, List, Option, Some, None, Bool, true, false, ◌&&◌, ◌||◌, refl, sym, ◌∙◌, arith}
+use Rattle.std.specs.Prelude.{IsTrue, if◌then◌else◌, is_some, slice_index}
 use Rattle.strm_num.proofs.Truths.{true_both}
 use Rattle.strm_num.specs.Words.{IsWord, truth_of}
 use Rattle.list_denotation.specs.declared.expr.BinOp.{BinOp}
@@ -15,13 +14,14 @@ use Rattle.loop_ir.specs.Leaves.{operand_leaves, test_leaves, block_leaves}
 use Rattle.loop_ir.specs.Statements as s
 use Rattle.loop_ir.specs.Statements.{Operand, Test, Same, Block, Nil, Cons, join}
 use Rattle.expr_phrases.specs.Phrases.{Division, Quotient, Remainder, set, minus, set_truth, by_divisor, Connective, Conjunction, Disjunction, connected_test, connected_block}
-use Rattle.expr_phrases.specs.Simple.{negated_constant, literal_of, constant_of, is_simple}
-use Rattle.expr_phrases.specs.Results.{IsWordConstant}
-use Rattle.expr_lower.specs.Lowering.{Form, AWord, ATest, InTarget, Lowered, Condition, condition_of, is_word, operand_rest, operand_block, operand_in, condition_in, target_rest, into, as_word, in_target, lowered_minus, lowered_not, lowered_arithmetic, lowered_comparison, division_operand_block, division_operand_in, lowered_division, lowered_operation, is_empty, connective_rest, lowered_connective, lowered_choice, lowered_term, lowered_into}
-use Rattle.expr_lower.specs.Costs.{is_arithmetic, is_plain, is_direct, temps_of}
+use Rattle.expr_constants.specs.Constants.{constant_of, IsWordConstant}
+use Rattle.expr_constants.specs.Simple.{is_simple}
+use Rattle.expr_lower.specs.Lowering.{Form, AWord, ATest, InTarget, Lowered, Condition, condition_of, is_word, operand_rest, operand_block, operand_in, condition_in, target_rest, into, as_word, in_target, lowered_minus, lowered_not, lowered_arithmetic, lowered_comparison, division_operand_block, division_operand_in, lowered_division, lowered_operation, is_empty, connective_rest, lowered_connective, lowered_connected, lowered_choice, lowered_chosen, folded, lowered_parts, lowered_term, lowered_into}
+use Rattle.expr_lower.specs.Costs.{is_arithmetic, chosen_plain, has_plain_parts, is_plain, is_direct, unless_constant, connected_temps, chosen_temps, parts_temps, temps_of}
 use Rattle.expr_lower.specs.Laws.{Laws}
 use Rattle.expr_lower.specs.Scopes.{EachLeaf, IsWordLeaf}
-use Rattle.expr_lower.proofs.Plain.{plain_form, parts_form, simple_plain}
+use Rattle.expr_lower.proofs.Leaves.{leaves_word}
+use Rattle.expr_lower.proofs.Plain.{plain_form, operands_form, simple_plain}
 
 -- both tests fail together where one does
 not_first : (a b : Bool) → a ≡ false → (a && b) ≡ false
@@ -33,14 +33,14 @@ not_second false b h = refl
 
 -- ---- operands that are kept
 
--- an expression is not plain where a part isn't, or where its right operand is kept in a temporary
-left_not_plain : (o : BinOp) (a b : Term) → is_plain a ≡ false → is_plain (Bin o a b) ≡ false
+-- an operation is not plain where a part isn't, or where its right operand is kept in a temporary
+left_not_plain : (o : BinOp) (a b : Term) → is_plain a ≡ false → has_plain_parts (Bin o a b) ≡ false
 left_not_plain o a b h = not_second (is_arithmetic o) (is_plain a && is_plain b) (not_first (is_plain a) (is_plain b) h)
 
-right_not_plain : (o : BinOp) (a b : Term) → is_plain b ≡ false → is_plain (Bin o a b) ≡ false
+right_not_plain : (o : BinOp) (a b : Term) → is_plain b ≡ false → has_plain_parts (Bin o a b) ≡ false
 right_not_plain o a b h = not_second (is_arithmetic o) (is_plain a && is_plain b) (not_second (is_plain a) (is_plain b) h)
 
-kept_not_plain : (o : BinOp) (a b : Term) → is_direct o b ≡ false → is_plain (Bin o a b) ≡ false
+kept_not_plain : (o : BinOp) (a b : Term) → is_direct o b ≡ false → has_plain_parts (Bin o a b) ≡ false
 kept_not_plain sign.Add a b h = right_not_plain sign.Add a b h
 kept_not_plain sign.Sub a b h = right_not_plain sign.Sub a b h
 kept_not_plain sign.Mul a b h = right_not_plain sign.Mul a b h
@@ -59,17 +59,6 @@ kept_operand o b none = either_fails (is_division o) (is_simple b) (is_plain b) 
 -- it has a temporary beside its own
 kept_temps : (direct : Bool) (n : ℕ) → direct ≡ false → (if direct then 0 else n + 1) ≡ n + 1
 kept_temps direct n h = rw h refl
-
--- ---- constants of divisions
-
-constant_word : (e : Term) → EachLeaf IsWordLeaf e → IsWordConstant (constant_of e)
-constant_word (Lit c) h = h
-constant_word (Neg a) h = negated a
-  where
-    negated : (a : Term) → IsWordConstant (negated_constant (literal_of a))
-    negated (Lit c) = mod-lt (2 ^ 64 - c) (omega arith)
-    negated _ = tt
-constant_word _ h = tt
 
 -- the word that a leaf is
 abbrev pub leaf_operand : List ℕ → Term → Operand
@@ -254,7 +243,7 @@ module _ (laws : Laws) (passes : Operand → Bool) (constants : (c : ℕ) → Is
       record {
         block = joins (division_operand_block x a v) (join (division_operand_block y b t) divided) (division_operand_block_in (is_simple x) a v h (λ none. at))
             (joins (division_operand_block y b t) divided (division_operand_block_in (is_simple y) b t k temp)
-            (laws.division_leaves passes d (constant_of x) (constant_of y) (division_operand_in x a.form v) (division_operand_in y b.form t) v constants (constant_word x has_x) (constant_word y has_y) at left right));
+            (laws.division_leaves passes d (constant_of x) (constant_of y) (division_operand_in x a.form v) (division_operand_in y b.form t) v constants (laws.constant_word x (leaves_word x has_x)) (laws.constant_word y (leaves_word y has_y)) at left right));
         form = tt;
       }
 
@@ -274,89 +263,115 @@ module _ (laws : Laws) (passes : Operand → Bool) (constants : (c : ℕ) → Is
 
   -- ---- expressions
 
-  -- of the target and the temporaries, unless the expression is plain and uses none of them
-  record HasRoom (e : Term) (v t : ℕ) : Type 0 where
-    target : is_plain e ≡ false → InVariable v
-    temps : is_plain e ≡ false → (x : ℕ) → t ≤ x → x < t + temps_of e → InVariable x
+  -- of the target and so many temporaries, unless the expression is plain and uses none of them
+  record HasRoom (plain : Bool) (n v t : ℕ) : Type 0 where
+    target : plain ≡ false → InVariable v
+    temps : plain ≡ false → (x : ℕ) → t ≤ x → x < t + n → InVariable x
 
   -- a part has room where the whole has
-  room : (e : Term) (v t n : ℕ) → InVariable v → ((x : ℕ) → t ≤ x → x < t + n → InVariable x) → temps_of e ≤ n → HasRoom e v t
-  room e v t n at temps le = record { target = λ none. at; temps = λ none x low high. temps x low (omega arith) }
+  room : (plain : Bool) (m v t n : ℕ) → InVariable v → ((x : ℕ) → t ≤ x → x < t + n → InVariable x) → m ≤ n → HasRoom plain m v t
+  room plain m v t n at temps le = record { target = λ none. at; temps = λ none x low high. temps x low (omega arith) }
 
-  left_room : (o : BinOp) (a b : Term) (v t : ℕ) → HasRoom (Bin o a b) v t → HasRoom a v t
+  left_room : (o : BinOp) (a b : Term) (v t : ℕ) → HasRoom (has_plain_parts (Bin o a b)) (parts_temps (Bin o a b)) v t → HasRoom (is_plain a) (temps_of a) v t
   left_room o a b v t r = record {
     target = λ none. r.target (left_not_plain o a b none);
     temps = λ none x low high. r.temps (left_not_plain o a b none) x low (omega arith);
   }
 
   -- the first temporary is that of a right operand that is kept
-  first_temp : (o : BinOp) (a b : Term) (v t : ℕ) → HasRoom (Bin o a b) v t → is_direct o b ≡ false → InVariable t
+  first_temp : (o : BinOp) (a b : Term) (v t : ℕ) → HasRoom (has_plain_parts (Bin o a b)) (parts_temps (Bin o a b)) v t → is_direct o b ≡ false → InVariable t
   first_temp o a b v t r kept =
       r.temps (kept_not_plain o a b kept) t (omega arith) (omega (arith, kept_temps (is_direct o b) (temps_of b) kept))
 
-  right_room : (o : BinOp) (a b : Term) (v t : ℕ) → HasRoom (Bin o a b) v t → HasRoom b t (t + 1)
+  right_room : (o : BinOp) (a b : Term) (v t : ℕ) → HasRoom (has_plain_parts (Bin o a b)) (parts_temps (Bin o a b)) v t → HasRoom (is_plain b) (temps_of b) t (t + 1)
   right_room o a b v t r = record {
     target = λ none. first_temp o a b v t r (kept_operand o b none);
     temps = λ none x low high. r.temps (right_not_plain o a b none) x (omega arith) (omega (arith, kept_temps (is_direct o b) (temps_of b) (kept_operand o b none)));
   }
+
+  -- the parts that no constant rules out
+  second_room : (first : Option ℕ) (plain : Bool) (m n v t : ℕ) → HasRoom false (connected_temps first m n) v t → HasRoom plain n v t
+  second_room (Some c) plain m n v t r = room plain n v t n (r.target refl) (r.temps refl) (omega arith)
+  second_room None plain m n v t r = room plain n v t (max m n) (r.target refl) (r.temps refl) (omega arith)
+
+  connected_in : (o : Connective) (first : Option ℕ) (a b : Lowered) (m n v t : ℕ) (plain : Bool) → HasRoom false (connected_temps first m n) v t → (HasRoom plain m v t → InLowered a) → InLowered b → InLowered (lowered_connected o first (condition_of a v) (condition_of b v) v)
+  connected_in o (Some c) a b m n v t plain r h k = let second = condition_of_in b v k (r.target refl) in record { block = second.block; form = second.test }
+  connected_in o None a b m n v t plain r h k =
+      connective_in o (condition_of a v) (condition_of b v) v (condition_of_in a v (h (room plain m v t (max m n) (r.target refl) (r.temps refl) (omega arith))) (r.target refl))
+      (condition_of_in b v k (r.target refl)) (r.target refl)
+
+  chosen_in : (condition : Option ℕ) (c a b : Lowered) (plain first second : Bool) (l m n v t : ℕ) → HasRoom (chosen_plain condition first second) (chosen_temps condition l m n) v t → (HasRoom plain l v t → InLowered c) → (HasRoom first m v t → InLowered a) → (HasRoom second n v t → InLowered b) → InLowered (lowered_chosen condition (condition_of c v) a b v)
+  chosen_in (Some zero) c a b plain first second l m n v t r h j k = k r
+  chosen_in (Some (suc x)) c a b plain first second l m n v t r h j k = j r
+  chosen_in None c a b plain first second l m n v t r h j k =
+      let all = max l (max m n) in
+      choice_in (condition_of c v) (into a v) (into b v)
+      (condition_of_in c v (h (room plain l v t all (r.target refl) (r.temps refl) (omega arith))) (r.target refl))
+      (into_in a v (j (room first m v t all (r.target refl) (r.temps refl) (omega arith))) (r.target refl))
+      (into_in b v (k (room second n v t all (r.target refl) (r.temps refl) (omega arith))) (r.target refl))
 
   module _ (rows : List ℕ) where
     -- of each leaf, as the word that it is
     abbrev pub InLeaf : Term → Type 0
     InLeaf x = InOperand (leaf_operand rows x)
 
-    lowered_in : (e : Term) (v t : ℕ) → EachLeaf IsWordLeaf e → EachLeaf InLeaf e → HasRoom e v t → InLowered (lowered_term rows e v t)
-    lowered_in (Lit c) v t has m r = record { block = refl; form = m }
-    lowered_in (Truth b) v t has m r = record { block = refl; form = m }
-    lowered_in (Var k) v t has m r = record { block = refl; form = m }
-    lowered_in (Param k) v t has m r = record { block = refl; form = m }
-    lowered_in (Len k) v t has m r = record { block = refl; form = m }
-    lowered_in (Neg a) v t has m r =
-        minus_form_in (lowered_term rows a v t) v (lowered_in a v t has m (record { target = r.target; temps = r.temps })) (λ none. r.target (sym (plain_form rows a v t) ∙ none))
-    lowered_in (Not a) v t has m r =
-        let part = room a v t (temps_of a) (r.target refl) (r.temps refl) (omega arith) in
-        not_form_in (condition_of (lowered_term rows a v t) v) (condition_of_in (lowered_term rows a v t) v (lowered_in a v t has m part) (r.target refl))
-    lowered_in (Bin o a b) v t has m r =
+    -- a constant is a word, and all else is what its parts give
+    folded_in : (e : Term) (v t : ℕ) → EachLeaf IsWordLeaf e → (HasRoom (has_plain_parts e) (parts_temps e) v t → InLowered (lowered_parts rows e v t)) → HasRoom (is_plain e) (temps_of e) v t → InLowered (lowered_term rows e v t)
+    folded_in e v t has parts r = by_constant_of (constant_of e) (laws.constant_word e (leaves_word e has)) r
+      where
+        by_constant_of : (k : Option ℕ) → IsWordConstant k → HasRoom (is_some k || has_plain_parts e) (unless_constant k (parts_temps e)) v t → InLowered (folded k (lowered_parts rows e v t))
+        by_constant_of (Some c) word r = record { block = refl; form = constants c word }
+        by_constant_of None word r = parts r
+
+    parts_in : (e : Term) (v t : ℕ) → EachLeaf IsWordLeaf e → EachLeaf InLeaf e → HasRoom (has_plain_parts e) (parts_temps e) v t → InLowered (lowered_parts rows e v t)
+    parts_in (Lit c) v t has m r = record { block = refl; form = m }
+    parts_in (Truth b) v t has m r = record { block = refl; form = m }
+    parts_in (Var k) v t has m r = record { block = refl; form = m }
+    parts_in (Param k) v t has m r = record { block = refl; form = m }
+    parts_in (Len k) v t has m r = record { block = refl; form = m }
+    parts_in (Neg a) v t has m r =
+        minus_form_in (lowered_term rows a v t) v (folded_in a v t has (parts_in a v t has m) (record { target = r.target; temps = r.temps }))
+        (λ none. r.target (sym (plain_form rows a v t) ∙ none))
+    parts_in (Not a) v t has m r =
+        let part = room (is_plain a) (temps_of a) v t (temps_of a) (r.target refl) (r.temps refl) (omega arith) in
+        not_form_in (condition_of (lowered_term rows a v t) v) (condition_of_in (lowered_term rows a v t) v (folded_in a v t has (parts_in a v t has m) part) (r.target refl))
+    parts_in (Bin o a b) v t has m r =
         let first = lowered_term rows a v t in
         let second = lowered_term rows b t (t + 1) in
-        operation_in o a b first second v t has.0 has.1 (lowered_in a v t has.0 m.0 (left_room o a b v t r)) (lowered_in b t (t + 1) has.1 m.1 (right_room o a b v t r))
-        (λ none. r.target (sym (parts_form rows o a b v t) ∙ none))
+        operation_in o a b first second v t has.0 has.1
+        (folded_in a v t has.0 (parts_in a v t has.0 m.0) (left_room o a b v t r)) (folded_in b t (t + 1) has.1 (parts_in b t (t + 1) has.1 m.1) (right_room o a b v t r))
+        (λ none. r.target (sym (operands_form rows o a b v t) ∙ none))
         (λ none. first_temp o a b v t r (kept_operand o b (sym (plain_form rows b t (t + 1)) ∙ none)))
         (first_temp o a b v t r)
-    lowered_in (And a b) v t has m r =
-        let n = max (temps_of a) (temps_of b) in
-        connective_in Conjunction (condition_of (lowered_term rows a v t) v) (condition_of (lowered_term rows b v t) v) v
-        (condition_of_in (lowered_term rows a v t) v (lowered_in a v t has.0 m.0 (room a v t n (r.target refl) (r.temps refl) (omega arith))) (r.target refl))
-        (condition_of_in (lowered_term rows b v t) v (lowered_in b v t has.1 m.1 (room b v t n (r.target refl) (r.temps refl) (omega arith))) (r.target refl))
-        (r.target refl)
-    lowered_in (Or a b) v t has m r =
-        let n = max (temps_of a) (temps_of b) in
-        connective_in Disjunction (condition_of (lowered_term rows a v t) v) (condition_of (lowered_term rows b v t) v) v
-        (condition_of_in (lowered_term rows a v t) v (lowered_in a v t has.0 m.0 (room a v t n (r.target refl) (r.temps refl) (omega arith))) (r.target refl))
-        (condition_of_in (lowered_term rows b v t) v (lowered_in b v t has.1 m.1 (room b v t n (r.target refl) (r.temps refl) (omega arith))) (r.target refl))
-        (r.target refl)
-    lowered_in (If c a b) v t has m r =
-        let n = max (temps_of c) (max (temps_of a) (temps_of b)) in
-        choice_in (condition_of (lowered_term rows c v t) v) (into (lowered_term rows a v t) v) (into (lowered_term rows b v t) v)
-        (condition_of_in (lowered_term rows c v t) v (lowered_in c v t has.0 m.0 (room c v t n (r.target refl) (r.temps refl) (omega arith))) (r.target refl))
-        (into_in (lowered_term rows a v t) v (lowered_in a v t has.1.0 m.1.0 (room a v t n (r.target refl) (r.temps refl) (omega arith))) (r.target refl))
-        (into_in (lowered_term rows b v t) v (lowered_in b v t has.1.1 m.1.1 (room b v t n (r.target refl) (r.temps refl) (omega arith))) (r.target refl))
+    parts_in (And a b) v t has m r =
+        connected_in Conjunction (constant_of a) (lowered_term rows a v t) (lowered_term rows b v t) (temps_of a) (temps_of b) v t (is_plain a) r
+        (folded_in a v t has.0 (parts_in a v t has.0 m.0))
+        (folded_in b v t has.1 (parts_in b v t has.1 m.1) (second_room (constant_of a) (is_plain b) (temps_of a) (temps_of b) v t r))
+    parts_in (Or a b) v t has m r =
+        connected_in Disjunction (constant_of a) (lowered_term rows a v t) (lowered_term rows b v t) (temps_of a) (temps_of b) v t (is_plain a) r
+        (folded_in a v t has.0 (parts_in a v t has.0 m.0))
+        (folded_in b v t has.1 (parts_in b v t has.1 m.1) (second_room (constant_of a) (is_plain b) (temps_of a) (temps_of b) v t r))
+    parts_in (If c a b) v t has m r =
+        chosen_in (constant_of c) (lowered_term rows c v t) (lowered_term rows a v t) (lowered_term rows b v t) (is_plain c) (is_plain a) (is_plain b)
+        (temps_of c) (temps_of a) (temps_of b) v t r
+        (folded_in c v t has.0 (parts_in c v t has.0 m.0)) (folded_in a v t has.1.0 (parts_in a v t has.1.0 m.1.0)) (folded_in b v t has.1.1 (parts_in b v t has.1.1 m.1.1))
 
     module _ (e : Term) (v t top : ℕ) (at : InVariable v) (temps : (x : ℕ) → t ≤ x → x < top → InVariable x) (le : t + temps_of e ≤ top) (has : EachLeaf IsWordLeaf e) (leaves : EachLeaf InLeaf e) where
-      parts_in : InLowered (lowered_term rows e v t)
-      parts_in = lowered_in e v t has leaves (room e v t (temps_of e) at (λ x low high. temps x low (omega (arith, high, le))) (omega arith))
+      lowered_in : InLowered (lowered_term rows e v t)
+      lowered_in =
+          folded_in e v t has (parts_in e v t has leaves) (room (is_plain e) (temps_of e) v t (temps_of e) at (λ x low high. temps x low (omega (arith, high, le))) (omega arith))
 
       -- the statements that put the value of an expression into its target
       pub value_in : InBlock (lowered_into rows e v t)
-      value_in = into_in (lowered_term rows e v t) v parts_in at
+      value_in = into_in (lowered_term rows e v t) v lowered_in at
 
       -- those of a condition, and its test
       pub test_in : InCondition (condition_of (lowered_term rows e v t) v)
-      test_in = condition_of_in (lowered_term rows e v t) v parts_in at
+      test_in = condition_of_in (lowered_term rows e v t) v lowered_in at
 
       -- those of an operand, and its word
       pub operand_statements_in : InBlock (operand_block (lowered_term rows e v t) v)
-      operand_statements_in = operand_block_in (lowered_term rows e v t) v parts_in (λ none. at)
+      operand_statements_in = operand_block_in (lowered_term rows e v t) v lowered_in (λ none. at)
 
       pub operand_word_in : InOperand (operand_in (lowered_term rows e v t).form v)
-      operand_word_in = operand_in_in (lowered_term rows e v t).form v parts_in.form (λ none. at)
+      operand_word_in = operand_in_in (lowered_term rows e v t).form v lowered_in.form (λ none. at)

@@ -1,6 +1,6 @@
 -- The statements of an expression come to its value, by one induction over the expression.
-use Rattle.std.proofs.Common.{◌≡◌, inl, ℕ, zero, suc, ◌+◌, ◌-◌, ◌<◌, ◌≤◌, ◌^◌, Bool, true, false, ◌&&◌, List, [], length, max, refl, sym, ap, ◌∙◌, subst, arith}
-use Rattle.std.specs.Prelude.{if◌then◌else◌, not}
+use Rattle.std.proofs.Common.{◌≡◌, inl, ℕ, zero, suc, ◌+◌, ◌-◌, ◌<◌, ◌≤◌, ◌^◌, Bool, true, false, ◌&&◌, ◌||◌, List, [], length, max, Option, Some, None, refl, sym, ap, ◌∙◌, subst, arith}
+use Rattle.std.specs.Prelude.{IsTrue, is_some, if◌then◌else◌, not}
 use Rattle.std.proofs.Math.Nat.{mod-lt}
 use Rattle.strm_num.specs.Words.{negation_of, truth_of}
 use Rattle.list_denotation.specs.declared.expr.BinOp.{BinOp}
@@ -16,18 +16,19 @@ use Rattle.loop_ir.specs.Meaning.{Runs, operand_value, test_value, run}
 use Rattle.expr_phrases.specs.Results.{comparison_truth, result_of}
 use Rattle.expr_lower.specs.Contract.{is_true, Kept, GoesOn, ComesTo, IsIn}
 use Rattle.expr_phrases.specs.Phrases.{Division, Quotient, Remainder, set, minus, set_truth, opposite, comparison_test, by_divisor, Connective, Conjunction, Disjunction, connected_test, connected_block}
-use Rattle.expr_phrases.specs.Simple.{constant_of, is_simple}
-use Rattle.expr_lower.specs.Lowering.{Lowered, Form, AWord, ATest, InTarget, is_word, as_word, in_target, operand_block, operand_in, condition_in, into, division_operand_block, division_operand_in, lowered_minus, lowered_arithmetic, lowered_comparison, lowered_division, lowered_operation, is_empty, connective_form, lowered_connective, lowered_term, lowered_test}
-use Rattle.expr_lower.specs.Costs.{is_plain, is_direct, temps_of}
+use Rattle.expr_constants.specs.Constants.{conjunction_constant, disjunction_constant, constant_of}
+use Rattle.expr_constants.specs.Simple.{is_simple}
+use Rattle.expr_lower.specs.Lowering.{Lowered, Form, AWord, ATest, InTarget, is_word, as_word, in_target, operand_block, operand_in, condition_in, into, division_operand_block, division_operand_in, lowered_minus, lowered_arithmetic, lowered_comparison, lowered_division, lowered_operation, is_empty, connective_form, lowered_connective, lowered_connected, lowered_choice, lowered_chosen, folded, lowered_parts, lowered_term, lowered_test}
+use Rattle.expr_lower.specs.Costs.{has_plain_parts, is_plain, is_direct, unless_constant, connected_temps, chosen_temps, parts_temps, temps_of}
 use Rattle.expr_lower.specs.Laws.{Laws}
 use Rattle.expr_lower.specs.PlainWords.{arithmetic_operator}
 use Rattle.expr_lower.specs.Scopes.{EachLeaf, IsWordLeaf, WordsInPlace}
 use Rattle.expr_lower.proofs.Disjointness.{IsDisjoint, disjoint_right}
-use Rattle.expr_lower.proofs.Effects.{IsWordValue, then_comes, maps, holds_too, nothing_comes, assigns_comes, set_comes, first_comes, second_comes, set_truth_comes}
-use Rattle.expr_lower.proofs.Plain.{plain_form}
-use Rattle.expr_lower.proofs.PlainValues.{arithmetic_value, arithmetic_word, truth_word}
+use Rattle.expr_lower.proofs.Effects.{then_comes, maps, holds_too, nothing_comes, assigns_comes, set_comes, first_comes, second_comes, set_truth_comes}
+use Rattle.expr_lower.proofs.Plain.{plain_form, parts_plain}
+use Rattle.expr_lower.proofs.PlainValues.{arithmetic_value, arithmetic_word, truth_word, word_unless_zero, chosen_value}
 use Rattle.expr_lower.proofs.ValueUses.{HasTruth, IsFound, IsOperand, IsCondition, still_in_place, operand_comes, condition_comes, target_comes}
-use Rattle.expr_lower.proofs.Operands.{Ready, still_ready, IsLowered, IsKeptOperand, BothAre, plain_comes, left_comes, division_operand_comes, right_comes, division_right_comes, operands_come}
+use Rattle.expr_lower.proofs.Operands.{Ready, still_ready, IsLoweredTo, IsLowered, IsKeptOperand, BothAre, plain_comes, left_comes, division_operand_comes, right_comes, division_right_comes, operands_come}
 
 -- ---- operations on words
 
@@ -39,11 +40,6 @@ arithmetic_is inputs _ wx wy x y env hx hy = rw (hx, hy) refl
 negation_word : (x : ℕ) → negation_of x < 2 ^ 64
 negation_word x = mod-lt (2 ^ 64 - x) (omega arith)
 
--- a quotient or remainder is a word, where there is one
-word_unless_zero : (y r : ℕ) → r < 2 ^ 64 → IsWordValue (unless_zero Trap y r)
-word_unless_zero zero r word = tt
-word_unless_zero (suc y) r word = word
-
 -- ---- what is chosen
 
 not_choice : (x : ℕ) → choice x 1 0 ≡ truth_of (not (is_true x))
@@ -54,14 +50,25 @@ truth_choice : (x : ℕ) → choice x 0 1 ≡ truth_of (is_true x)
 truth_choice zero = refl
 truth_choice (suc x) = refl
 
+-- the second part is looked at only where the first one doesn't decide
+abbrev decided : Connective → ℕ → Got ℕ → Got ℕ
+decided Conjunction x rest = choice x (Is 0) rest
+decided Disjunction x rest = choice x rest (Is 1)
+
 module _ (laws : Laws) (rows words : List ℕ) (inputs : List Input) where
   -- ---- the parts of an expression that is ready
 
-  left_ready : (o : BinOp) (a b : Term) (v t top : ℕ) (env : List ℕ) → Ready rows words inputs (term.Bin o a b) v t top env → Ready rows words inputs a v t top env
-  left_ready o a b v t top env ready = record {
+  -- of an expression that isn't constant, what its parts need
+  parts_room : (e : Term) (t top : ℕ) → constant_of e ≡ None → t + temps_of e ≤ top → t + parts_temps e ≤ top
+  parts_room e t top none h =
+      let same : temps_of e ≡ parts_temps e = ap (λ k. unless_constant k (parts_temps e)) none in
+      omega (arith, h, same)
+
+  left_ready : (o : BinOp) (a b : Term) (v t top : ℕ) (env : List ℕ) → constant_of (term.Bin o a b) ≡ None → Ready rows words inputs (term.Bin o a b) v t top env → Ready rows words inputs a v t top env
+  left_ready o a b v t top env none ready = record {
     has = ready.has.0;
     outside = ready.outside;
-    room = left_room (temps_of a) (if is_direct o b then 0 else temps_of b + 1) ready.room;
+    room = left_room (temps_of a) (if is_direct o b then 0 else temps_of b + 1) (parts_room (term.Bin o a b) t top none ready.room);
     inside = ready.inside;
     within = ready.within;
     apart = ready.apart.0;
@@ -71,14 +78,14 @@ module _ (laws : Laws) (rows words : List ℕ) (inputs : List Input) where
       left_room : (m n : ℕ) → t + max m n ≤ top → t + m ≤ top
       left_room m n h = omega (arith, h)
 
-  right_room : (o : BinOp) (a b : Term) (t top : ℕ) → is_direct o b ≡ false → t + temps_of (term.Bin o a b) ≤ top → (t + 1) + temps_of b ≤ top
+  right_room : (o : BinOp) (a b : Term) (t top : ℕ) → is_direct o b ≡ false → t + parts_temps (term.Bin o a b) ≤ top → (t + 1) + temps_of b ≤ top
   right_room o a b t top kept h =
-      let same : temps_of (term.Bin o a b) ≡ max (temps_of a) (temps_of b + 1) = ap (λ d. max (temps_of a) (if d then 0 else temps_of b + 1)) kept in
+      let same : parts_temps (term.Bin o a b) ≡ max (temps_of a) (temps_of b + 1) = ap (λ d. max (temps_of a) (if d then 0 else temps_of b + 1)) kept in
       omega (arith, h, same)
 
-  right_ready : (o : BinOp) (a b : Term) (v t top : ℕ) (env : List ℕ) → is_direct o b ≡ false → Ready rows words inputs (term.Bin o a b) v t top env → (t < top) × Ready rows words inputs b t (t + 1) top env
-  right_ready o a b v t top env kept ready =
-      let room = right_room o a b t top kept ready.room in
+  right_ready : (o : BinOp) (a b : Term) (v t top : ℕ) (env : List ℕ) → constant_of (term.Bin o a b) ≡ None → is_direct o b ≡ false → Ready rows words inputs (term.Bin o a b) v t top env → (t < top) × Ready rows words inputs b t (t + 1) top env
+  right_ready o a b v t top env none kept ready =
+      let room = right_room o a b t top kept (parts_room (term.Bin o a b) t top none ready.room) in
       let below : t < top = omega (arith, room) in (
         below,
         record {
@@ -92,6 +99,15 @@ module _ (laws : Laws) (rows words : List ℕ) (inputs : List Input) where
         },
       )
 
+  -- ---- expressions that aren't constant
+
+  unfolded : (e : Term) (v t : ℕ) → constant_of e ≡ None → lowered_term rows e v t ≡ lowered_parts rows e v t
+  unfolded e v t none = ap (λ k. folded k (lowered_parts rows e v t)) none
+
+  plain_parts_comes : (e : Term) (v t top : ℕ) (env : List ℕ) → constant_of e ≡ None → IsTrue (has_plain_parts e) → Ready rows words inputs e v t top env → IsLoweredTo rows words inputs e (lowered_parts rows e v t) v t top env
+  plain_parts_comes e v t top env none plain ready =
+      subst (λ l. IsLoweredTo rows words inputs e l v t top env) (unfolded e v t none) (plain_comes rows words inputs laws e v t top env (parts_plain e plain) ready)
+
   -- ---- one part
 
   no_word : (form : Form) (v : ℕ) → is_word form ≡ false → operand_in form v ≡ Var v
@@ -102,14 +118,14 @@ module _ (laws : Laws) (rows words : List ℕ) (inputs : List Input) where
   as_minus : (l : Lowered) (v : ℕ) → is_word l.form ≡ false → lowered_minus l v ≡ in_target (join (operand_block l v) (set v (minus (Var v))))
   as_minus l v h = ap (λ b. if b then as_word (minus (operand_in l.form v)) else in_target (join (operand_block l v) (set v (minus (Var v))))) h
 
-  minus_comes : (a : Term) (v t top : ℕ) (env : List ℕ) (plain : Bool) → is_plain a ≡ plain → Ready rows words inputs (term.Neg a) v t top env → Ready rows words inputs a v t top env → IsLowered rows words inputs a v t top env → IsLowered rows words inputs (term.Neg a) v t top env
-  minus_comes a v t top env true is ready part h = plain_comes rows words inputs laws (term.Neg a) v t top env is ready
-  minus_comes a v t top env false is ready part h =
+  minus_comes : (a : Term) (v t top : ℕ) (env : List ℕ) (plain : Bool) → is_plain a ≡ plain → constant_of (term.Neg a) ≡ None → Ready rows words inputs (term.Neg a) v t top env → Ready rows words inputs a v t top env → IsLowered rows words inputs a v t top env → IsLoweredTo rows words inputs (term.Neg a) (lowered_parts rows (term.Neg a) v t) v t top env
+  minus_comes a v t top env true is none ready part h = plain_parts_comes (term.Neg a) v t top env none is ready
+  minus_comes a v t top env false is none ready part h =
       let l : Lowered = lowered_term rows a v t in
       let bare : is_word l.form ≡ false = plain_form rows a v t ∙ is in
       subst (λ m. ComesTo inputs m.block env v t top (IsFound rows words inputs (term.Neg a) m.form v) (value (term.Neg a) words inputs)) (sym (as_minus l v bare))
       (then_comes inputs (operand_block l v) (set v (minus (Var v))) env v t top (IsKeptOperand rows words inputs a (operand_in l.form v) v) (IsIn v) (value a words inputs) (λ x. Is (negation_of x))
-      (left_comes rows words inputs a v t top env part h)
+      (left_comes rows words inputs laws a v t top env part h)
       (λ x env' word kept held. minus_set a l v t top x env' bare (still_ready rows words inputs a v t top env env' kept part) held))
     where
       minus_set : (a : Term) (l : Lowered) (v t top x : ℕ) (env' : List ℕ) → is_word l.form ≡ false → Ready rows words inputs a v t top env' → IsKeptOperand rows words inputs a (operand_in l.form v) v x env' → GoesOn inputs (set v (minus (Var v))) env' v t top (IsIn v) (negation_of x)
@@ -117,7 +133,7 @@ module _ (laws : Laws) (rows words : List ℕ) (inputs : List Input) where
           set_comes inputs env' v t top (minus (Var v)) (negation_of x) part.inside (negation_word x)
           (laws.minus_value inputs (Var v) x env' (ap (λ w. operand_value inputs w env') (sym (no_word l.form v bare)) ∙ held.0 env' part.in_place refl))
 
-  not_comes : (a : Term) (v t top : ℕ) (env : List ℕ) → Ready rows words inputs a v t top env → IsLowered rows words inputs a v t top env → IsLowered rows words inputs (term.Not a) v t top env
+  not_comes : (a : Term) (v t top : ℕ) (env : List ℕ) → Ready rows words inputs a v t top env → IsLowered rows words inputs a v t top env → IsLoweredTo rows words inputs (term.Not a) (lowered_parts rows (term.Not a) v t) v t top env
   not_comes a v t top env ready h =
       let l : Lowered = lowered_term rows a v t in
       let c : Test = condition_in l.form v in
@@ -146,7 +162,7 @@ module _ (laws : Laws) (rows words : List ℕ) (inputs : List Input) where
   abbrev LowersRight : Term → ℕ → ℕ → Type 0
   LowersRight b t top = (env : List ℕ) → Ready rows words inputs b t (t + 1) top env → IsLowered rows words inputs b t (t + 1) top env
 
-  module _ (o : BinOp) (a b : Term) (v t top : ℕ) (env : List ℕ) (ready : Ready rows words inputs (term.Bin o a b) v t top env) (left : IsLowered rows words inputs a v t top env) (lower : LowersRight b t top) where
+  module _ (o : BinOp) (a b : Term) (v t top : ℕ) (env : List ℕ) (none : constant_of (term.Bin o a b) ≡ None) (ready : Ready rows words inputs (term.Bin o a b) v t top env) (left : IsLowered rows words inputs a v t top env) (lower : LowersRight b t top) where
     abbrev first : Lowered
     first = lowered_term rows a v t
 
@@ -156,14 +172,14 @@ module _ (laws : Laws) (rows words : List ℕ) (inputs : List Input) where
     -- what is there for the right operand where it isn't direct
     kept_right_ready : (env' : List ℕ) → Kept v t top env env' → is_direct o b ≡ false → (t < top) × Ready rows words inputs b t (t + 1) top env' × IsLowered rows words inputs b t (t + 1) top env'
     kept_right_ready env' kept indirect =
-        let r = right_ready o a b v t top env' indirect (still_ready rows words inputs (term.Bin o a b) v t top env env' kept ready) in
+        let r = right_ready o a b v t top env' none indirect (still_ready rows words inputs (term.Bin o a b) v t top env env' kept ready) in
         (r.0, r.1, lower env' r.1)
 
     both_come : (rest : Block) (Q : ℕ → List ℕ → Type 0) (f : ℕ → ℕ → Got ℕ) → is_direct o b ≡ is_plain b → ((x y : ℕ) (env' : List ℕ) → Kept v t top env env' → BothAre rows words inputs a b (operand_in first.form v) (operand_in second.form t) x y env' → ComesTo inputs rest env' v t top Q (f x y)) → ComesTo inputs (join (operand_block first v) (join (operand_block second t) rest)) env v t top Q (with_value (value a words inputs) (λ x. with_value (value b words inputs) (λ y. f x y)))
     both_come rest Q f direct more =
         operands_come rows words inputs a b (operand_block first v) (operand_block second t) rest (operand_in first.form v) (operand_in second.form t) v t top env Q f
         ready.apart.0 ready.apart.1 ready.in_place.0 ready.in_place.1
-        (left_comes rows words inputs a v t top env (left_ready o a b v t top env ready) left)
+        (left_comes rows words inputs laws a v t top env (left_ready o a b v t top env none ready) left)
         (λ env' kept. right_comes rows words inputs laws b v t top env' (is_plain b) refl ready.outside ready.has.1
         (still_in_place rows words inputs b v t top env env' ready.apart.1 kept ready.in_place.1)
         (λ e. kept_right_ready env' kept (direct ∙ e)))
@@ -181,18 +197,18 @@ module _ (laws : Laws) (rows words : List ℕ) (inputs : List Input) where
         (set_comes inputs env' v t top (Bin (arithmetic_operator o) (operand_in first.form v) (operand_in second.form t)) (arithmetic_value o x y) (inside_still env' kept) (arithmetic_word o x y)
         (arithmetic_is inputs o (operand_in first.form v) (operand_in second.form t) x y env' both.left.is both.right.is)))
 
-    lowered_as : (m : Lowered) → lowered_operation o a b first second v t ≡ m → ComesTo inputs m.block env v t top (IsFound rows words inputs (term.Bin o a b) m.form v) (value (term.Bin o a b) words inputs) → IsLowered rows words inputs (term.Bin o a b) v t top env
+    lowered_as : (m : Lowered) → lowered_operation o a b first second v t ≡ m → ComesTo inputs m.block env v t top (IsFound rows words inputs (term.Bin o a b) m.form v) (value (term.Bin o a b) words inputs) → IsLoweredTo rows words inputs (term.Bin o a b) (lowered_parts rows (term.Bin o a b) v t) v t top env
     lowered_as m is h = subst (λ l. ComesTo inputs l.block env v t top (IsFound rows words inputs (term.Bin o a b) l.form v) (value (term.Bin o a b) words inputs)) (sym is) h
 
-    pub arithmetic_comes : (plain : Bool) → (is_plain a && is_plain b) ≡ plain → lowered_operation o a b first second v t ≡ lowered_arithmetic (arithmetic_operator o) first second v t → is_plain (term.Bin o a b) ≡ (is_plain a && is_plain b) → is_direct o b ≡ is_plain b → ((x y : ℕ) → operation_of o x y ≡ Is (arithmetic_value o x y)) → IsLowered rows words inputs (term.Bin o a b) v t top env
-    arithmetic_comes true is whole shape direct value_is = plain_comes rows words inputs laws (term.Bin o a b) v t top env (shape ∙ is) ready
+    pub arithmetic_comes : (plain : Bool) → (is_plain a && is_plain b) ≡ plain → lowered_operation o a b first second v t ≡ lowered_arithmetic (arithmetic_operator o) first second v t → has_plain_parts (term.Bin o a b) ≡ (is_plain a && is_plain b) → is_direct o b ≡ is_plain b → ((x y : ℕ) → operation_of o x y ≡ Is (arithmetic_value o x y)) → IsLoweredTo rows words inputs (term.Bin o a b) (lowered_parts rows (term.Bin o a b) v t) v t top env
+    arithmetic_comes true is whole shape direct value_is = plain_parts_comes (term.Bin o a b) v t top env none (shape ∙ is) ready
     arithmetic_comes false is whole shape direct value_is =
         lowered_as (in_target (join (operand_block first v) (join (operand_block second t) (set v (Bin (arithmetic_operator o) (operand_in first.form v) (operand_in second.form t))))))
         (whole ∙ as_arithmetic (arithmetic_operator o) first second v t (both_words a b v t ∙ is))
         (arithmetic_set direct value_is)
 
     -- comparisons
-    pub comparison_comes : lowered_operation o a b first second v t ≡ lowered_comparison o first second v t → is_direct o b ≡ is_plain b → ((x y : ℕ) → operation_of o x y ≡ Is (truth_of (comparison_truth o x y))) → IsLowered rows words inputs (term.Bin o a b) v t top env
+    pub comparison_comes : lowered_operation o a b first second v t ≡ lowered_comparison o first second v t → is_direct o b ≡ is_plain b → ((x y : ℕ) → operation_of o x y ≡ Is (truth_of (comparison_truth o x y))) → IsLoweredTo rows words inputs (term.Bin o a b) (lowered_parts rows (term.Bin o a b) v t) v t top env
     comparison_comes whole direct value_is =
         let c : Test = comparison_test o (operand_in first.form v) (operand_in second.form t) in
         let Q : ℕ → List ℕ → Type 0 = λ x env'. HasTruth rows words inputs c env' x in
@@ -209,12 +225,12 @@ module _ (laws : Laws) (rows words : List ℕ) (inputs : List Input) where
         })))))
 
     -- division
-    pub division_comes : (d : Division) → lowered_operation o a b first second v t ≡ lowered_division d a b first second v t → is_direct o b ≡ is_simple b → ((x y : ℕ) → operation_of o x y ≡ unless_zero Trap y (result_of d x y)) → IsLowered rows words inputs (term.Bin o a b) v t top env
+    pub division_comes : (d : Division) → lowered_operation o a b first second v t ≡ lowered_division d a b first second v t → is_direct o b ≡ is_simple b → ((x y : ℕ) → operation_of o x y ≡ unless_zero Trap y (result_of d x y)) → IsLoweredTo rows words inputs (term.Bin o a b) (lowered_parts rows (term.Bin o a b) v t) v t top env
     division_comes d whole direct value_is =
         let wa : Operand = division_operand_in a first.form v in
         let wb : Operand = division_operand_in b second.form t in
         let rest : Block = by_divisor d (constant_of a) (constant_of b) wa wb v in
-        let part = left_ready o a b v t top env ready in
+        let part = left_ready o a b v t top env none ready in
         lowered_as (lowered_division d a b first second v t) whole
         (operands_come rows words inputs a b (division_operand_block a first v) (division_operand_block b second t) rest wa wb v t top env (IsIn v) (λ x y. operation_of o x y)
         ready.apart.0 ready.apart.1 ready.in_place.0 ready.in_place.1
@@ -227,18 +243,18 @@ module _ (laws : Laws) (rows words : List ℕ) (inputs : List Input) where
         (assigns_comes inputs rest env' v t top (unless_zero Trap y (result_of d x y)) (inside_still env' kept) (word_unless_zero y (result_of d x y) (laws.division_word d x y))
         (laws.division_assigns inputs d (constant_of a) (constant_of b) wa wb x y v env' both.left both.right))))
 
-  operation_comes : (o : BinOp) (a b : Term) (v t top : ℕ) (env : List ℕ) → Ready rows words inputs (term.Bin o a b) v t top env → IsLowered rows words inputs a v t top env → LowersRight b t top → IsLowered rows words inputs (term.Bin o a b) v t top env
-  operation_comes sign.Add a b v t top env ready left lower = arithmetic_comes sign.Add a b v t top env ready left lower (is_plain a && is_plain b) refl refl refl refl (λ x y. refl)
-  operation_comes sign.Sub a b v t top env ready left lower = arithmetic_comes sign.Sub a b v t top env ready left lower (is_plain a && is_plain b) refl refl refl refl (λ x y. refl)
-  operation_comes sign.Mul a b v t top env ready left lower = arithmetic_comes sign.Mul a b v t top env ready left lower (is_plain a && is_plain b) refl refl refl refl (λ x y. refl)
-  operation_comes sign.Div a b v t top env ready left lower = division_comes sign.Div a b v t top env ready left lower Quotient refl refl (λ x y. refl)
-  operation_comes sign.Rem a b v t top env ready left lower = division_comes sign.Rem a b v t top env ready left lower Remainder refl refl (λ x y. refl)
-  operation_comes sign.Eq a b v t top env ready left lower = comparison_comes sign.Eq a b v t top env ready left lower refl refl (λ x y. refl)
-  operation_comes sign.Ne a b v t top env ready left lower = comparison_comes sign.Ne a b v t top env ready left lower refl refl (λ x y. refl)
-  operation_comes sign.Lt a b v t top env ready left lower = comparison_comes sign.Lt a b v t top env ready left lower refl refl (λ x y. refl)
-  operation_comes sign.Le a b v t top env ready left lower = comparison_comes sign.Le a b v t top env ready left lower refl refl (λ x y. refl)
-  operation_comes sign.Gt a b v t top env ready left lower = comparison_comes sign.Gt a b v t top env ready left lower refl refl (λ x y. refl)
-  operation_comes sign.Ge a b v t top env ready left lower = comparison_comes sign.Ge a b v t top env ready left lower refl refl (λ x y. refl)
+  operation_comes : (o : BinOp) (a b : Term) (v t top : ℕ) (env : List ℕ) → constant_of (term.Bin o a b) ≡ None → Ready rows words inputs (term.Bin o a b) v t top env → IsLowered rows words inputs a v t top env → LowersRight b t top → IsLoweredTo rows words inputs (term.Bin o a b) (lowered_parts rows (term.Bin o a b) v t) v t top env
+  operation_comes sign.Add a b v t top env none ready left lower = arithmetic_comes sign.Add a b v t top env none ready left lower (is_plain a && is_plain b) refl refl refl refl (λ x y. refl)
+  operation_comes sign.Sub a b v t top env none ready left lower = arithmetic_comes sign.Sub a b v t top env none ready left lower (is_plain a && is_plain b) refl refl refl refl (λ x y. refl)
+  operation_comes sign.Mul a b v t top env none ready left lower = arithmetic_comes sign.Mul a b v t top env none ready left lower (is_plain a && is_plain b) refl refl refl refl (λ x y. refl)
+  operation_comes sign.Div a b v t top env none ready left lower = division_comes sign.Div a b v t top env none ready left lower Quotient refl refl (λ x y. refl)
+  operation_comes sign.Rem a b v t top env none ready left lower = division_comes sign.Rem a b v t top env none ready left lower Remainder refl refl (λ x y. refl)
+  operation_comes sign.Eq a b v t top env none ready left lower = comparison_comes sign.Eq a b v t top env none ready left lower refl refl (λ x y. refl)
+  operation_comes sign.Ne a b v t top env none ready left lower = comparison_comes sign.Ne a b v t top env none ready left lower refl refl (λ x y. refl)
+  operation_comes sign.Lt a b v t top env none ready left lower = comparison_comes sign.Lt a b v t top env none ready left lower refl refl (λ x y. refl)
+  operation_comes sign.Le a b v t top env none ready left lower = comparison_comes sign.Le a b v t top env none ready left lower refl refl (λ x y. refl)
+  operation_comes sign.Gt a b v t top env none ready left lower = comparison_comes sign.Gt a b v t top env none ready left lower refl refl (λ x y. refl)
+  operation_comes sign.Ge a b v t top env none ready left lower = comparison_comes sign.Ge a b v t top env none ready left lower refl refl (λ x y. refl)
 
   -- ---- choices
 
@@ -265,6 +281,16 @@ module _ (laws : Laws) (rows words : List ℕ) (inputs : List Input) where
       (λ y env' word kept is.
       subst (λ n. GoesOn inputs (set_truth v (part_test e v t)) env' v t top (IsIn v) n) (sym (truth_choice y))
       (set_truth_comes inputs env' v t top (part_test e v t) (is_true y) (subst (λ n. v < n) (sym kept.same) ready.inside) is))
+
+  -- where the first part is constant, and doesn't decide: the truth of the second part
+  truth_comes : (e : Term) (v t top : ℕ) (env : List ℕ) → Ready rows words inputs e v t top env → IsLowered rows words inputs e v t top env → ComesTo inputs (lowered_term rows e v t).block env v t top (λ x env'. HasTruth rows words inputs (part_test e v t) env' x) (with_value (value e words inputs) (λ y. Is (choice y 0 1)))
+  truth_comes e v t top env ready h =
+      maps inputs (lowered_term rows e v t).block env v t top (IsCondition rows words inputs (part_test e v t)) (λ x env'. HasTruth rows words inputs (part_test e v t) env' x) (value e words inputs) (λ y. choice y 0 1)
+      (part_condition e v t top env ready h)
+      (λ y env' word kept is. (
+        subst (λ n. n < 2 ^ 64) (sym (truth_choice y)) (truth_word (is_true y)),
+        record { truth = is_true y; is = is; as_word = truth_choice y },
+      ))
 
   -- a second part that needs no statements: its test is looked at in the same state
   bare_test : (block : Block) (c both : Test) (v t top : ℕ) (env : List ℕ) (g : Got ℕ) → block ≡ Nil → ((y : ℕ) → test_value inputs c env ≡ Is (is_true y) → test_value inputs both env ≡ Is (is_true y)) → ComesTo inputs block env v t top (IsCondition rows words inputs c) g → ComesTo inputs Nil env v t top (λ x env'. HasTruth rows words inputs both env' x) (with_value g (λ y. Is (choice y 0 1)))
@@ -296,11 +322,6 @@ module _ (laws : Laws) (rows words : List ℕ) (inputs : List Input) where
 
     abbrev second_block : Block
     second_block = (lowered_term rows b v t).block
-
-    -- the second part is looked at only where the first one doesn't decide
-    abbrev decided : Connective → ℕ → Got ℕ → Got ℕ
-    decided Conjunction x rest = choice x (Is 0) rest
-    decided Disjunction x rest = choice x rest (Is 1)
 
     abbrev second_value : Got ℕ
     second_value = with_value (value b words inputs) (λ y. Is (choice y 0 1))
@@ -375,55 +396,127 @@ module _ (laws : Laws) (rows words : List ℕ) (inputs : List Input) where
         first_comes inputs (part_test c v t) (into (lowered_term rows a v t) v) (into (lowered_term rows b v t) v) env' v t top (IsIn v) (value a words inputs) is
         (part_target a v t top env' ready (lower_a env' ready))
 
-    choice_comes : IsLowered rows words inputs (term.If c a b) v t top env
+    choice_comes : IsLoweredTo rows words inputs (term.If c a b) (lowered_choice (lowered_test rows c v t) (into (lowered_term rows a v t) v) (into (lowered_term rows b v t) v)) v t top env
     choice_comes =
         then_comes inputs (lowered_term rows c v t).block choice_block env v t top (IsCondition rows words inputs (part_test c v t)) (IsIn v) (value c words inputs) (λ x. choice x (value b words inputs) (value a words inputs))
         (part_condition c v t top env ready_c condition)
         (λ x env' word kept h. branch_chosen x env' kept h)
 
-  -- ---- the parts of a choice are ready
+  -- ---- a first part, or a condition, that is constant
 
-  part_ready : (e whole : Term) (v t top : ℕ) (env : List ℕ) → temps_of e ≤ temps_of whole → EachLeaf IsWordLeaf e → IsDisjoint rows v t top e → WordsInPlace rows words inputs env e → Ready rows words inputs whole v t top env → Ready rows words inputs e v t top env
-  part_ready e whole v t top env fewer has apart in_place ready = record {
+  -- a part that is ready where there is room for it
+  abbrev ReadyWithin : Term → ℕ → ℕ → ℕ → List ℕ → Type 0
+  ReadyWithin e v t top env = t + temps_of e ≤ top → Ready rows words inputs e v t top env
+
+  part_within : (e whole : Term) (v t top : ℕ) (env : List ℕ) → EachLeaf IsWordLeaf e → IsDisjoint rows v t top e → WordsInPlace rows words inputs env e → Ready rows words inputs whole v t top env → ReadyWithin e v t top env
+  part_within e whole v t top env has apart in_place ready = λ room. record {
     has = has;
     outside = ready.outside;
-    room = omega (arith, fewer, ready.room);
+    room = room;
     inside = ready.inside;
     within = ready.within;
     apart = apart;
     in_place = in_place;
   }
 
+  abbrev truth_value : Term → Got ℕ
+  truth_value b = with_value (value b words inputs) (λ y. Is (choice y 0 1))
+
+  connected_comes : (o : Connective) (a b e : Term) (v t top : ℕ) (env : List ℕ) (first : Option ℕ) → constant_of a ≡ first → ((c : ℕ) → constant_of a ≡ Some c → value e words inputs ≡ truth_value b) → value e words inputs ≡ with_value (value a words inputs) (λ x. decided o x (truth_value b)) → t + connected_temps first (temps_of a) (temps_of b) ≤ top → ReadyWithin a v t top env → ReadyWithin b v t top env → LowersPart a v t top → LowersPart b v t top → IsLoweredTo rows words inputs e (lowered_connected o first (lowered_test rows a v t) (lowered_test rows b v t) v) v t top env
+  connected_comes o a b e v t top env (Some c) is decides whole room ready_a ready_b lower_a lower_b =
+      let ready = ready_b room in
+      subst (λ g. ComesTo inputs (lowered_term rows b v t).block env v t top (λ x env'. HasTruth rows words inputs (part_test b v t) env' x) g) (sym (decides c is))
+      (truth_comes b v t top env ready (lower_b env ready))
+  connected_comes o a b e v t top env None is decides whole room ready_a ready_b lower_a lower_b =
+      let first = ready_a (omega (arith, room)) in
+      let second = ready_b (omega (arith, room)) in
+      let l : Lowered = lowered_connective o (lowered_test rows a v t) (lowered_test rows b v t) v in
+      subst (λ g. ComesTo inputs l.block env v t top (IsFound rows words inputs e l.form v) g) (sym whole)
+      (connective_comes a b v t top env first second (lower_a env first) lower_b o e (is_empty (lowered_term rows b v t).block) refl)
+
+  -- the constant of the first part doesn't decide, since the whole isn't constant
+  conjunction_decided : (a b : Term) (c : ℕ) → constant_of (term.And a b) ≡ None → constant_of a ≡ Some c → value (term.And a b) words inputs ≡ truth_value b
+  conjunction_decided a b zero none is =
+      let known : ◌≡◌ {A = Option ℕ} (Some 0) None = sym (ap (λ k. conjunction_constant k (constant_of b)) is) ∙ none in absurd cc
+  conjunction_decided a b (suc c) none is = ap (λ g. with_value g (λ x. choice x (Is 0) (truth_value b))) (laws.constant_value a (suc c) words inputs is)
+
+  disjunction_decided : (a b : Term) (c : ℕ) → constant_of (term.Or a b) ≡ None → constant_of a ≡ Some c → value (term.Or a b) words inputs ≡ truth_value b
+  disjunction_decided a b zero none is = ap (λ g. with_value g (λ x. choice x (truth_value b) (Is 1))) (laws.constant_value a 0 words inputs is)
+  disjunction_decided a b (suc c) none is =
+      let known : ◌≡◌ {A = Option ℕ} (Some 1) None = sym (ap (λ k. disjunction_constant k (constant_of b)) is) ∙ none in absurd cc
+
+  -- a branch that is chosen is the whole
+  as_whole : (e whole : Term) (l : Lowered) (v t top : ℕ) (env : List ℕ) → ((env : List ℕ) → WordsInPlace rows words inputs env whole → WordsInPlace rows words inputs env e) → value whole words inputs ≡ value e words inputs → IsLoweredTo rows words inputs e l v t top env → IsLoweredTo rows words inputs whole l v t top env
+  as_whole e whole l v t top env part same h =
+      subst (λ g. ComesTo inputs l.block env v t top (IsFound rows words inputs whole l.form v) g) (sym same)
+      (holds_too inputs l.block env v t top (IsFound rows words inputs e l.form v) (IsFound rows words inputs whole l.form v) (value e words inputs) h
+      (λ x env' word kept found. by_form l.form x env' found))
+    where
+      by_form : (form : Form) (x : ℕ) (env' : List ℕ) → IsFound rows words inputs e form v x env' → IsFound rows words inputs whole form v x env'
+      by_form (AWord w) x env' found = λ env'' in_place. found env'' (part env'' in_place)
+      by_form (ATest c) x env' found = found
+      by_form InTarget x env' found = found
+
+  chosen_comes : (c a b : Term) (v t top : ℕ) (env : List ℕ) (condition : Option ℕ) → constant_of c ≡ condition → t + chosen_temps condition (temps_of c) (temps_of a) (temps_of b) ≤ top → ReadyWithin c v t top env → ReadyWithin a v t top env → ReadyWithin b v t top env → LowersPart c v t top → LowersPart a v t top → LowersPart b v t top → IsLoweredTo rows words inputs (term.If c a b) (lowered_chosen condition (lowered_test rows c v t) (lowered_term rows a v t) (lowered_term rows b v t) v) v t top env
+  chosen_comes c a b v t top env (Some zero) is room ready_c ready_a ready_b lower_c lower_a lower_b =
+      as_whole b (term.If c a b) (lowered_term rows b v t) v t top env (λ env' in_place. in_place.1.1) (chosen_value laws words inputs c a b 0 is) (lower_b env (ready_b room))
+  chosen_comes c a b v t top env (Some (suc n)) is room ready_c ready_a ready_b lower_c lower_a lower_b =
+      as_whole a (term.If c a b) (lowered_term rows a v t) v t top env (λ env' in_place. in_place.1.0) (chosen_value laws words inputs c a b (suc n) is) (lower_a env (ready_a room))
+  chosen_comes c a b v t top env None is room ready_c ready_a ready_b lower_c lower_a lower_b =
+      let ready = ready_c (omega (arith, room)) in
+      choice_comes c a b v t top env ready (ready_a (omega (arith, room))) (ready_b (omega (arith, room))) (lower_c env ready) lower_a lower_b
+
   -- ---- every expression
 
+  -- a constant comes to its value, and all else to what its parts come to
+  abbrev LowersTo : Term → Type 0
+  LowersTo e = (v t top : ℕ) (env : List ℕ) → constant_of e ≡ None → Ready rows words inputs e v t top env → IsLoweredTo rows words inputs e (lowered_parts rows e v t) v t top env
+
+  folded_comes : (e : Term) → LowersTo e → (v t top : ℕ) (env : List ℕ) → Ready rows words inputs e v t top env → IsLowered rows words inputs e v t top env
+  folded_comes e parts v t top env ready = by_constant_of (constant_of e) refl
+    where
+      by_constant_of : (k : Option ℕ) → constant_of e ≡ k → IsLowered rows words inputs e v t top env
+      by_constant_of (Some c) is = plain_comes rows words inputs laws e v t top env (constant_plain c is) ready
+        where
+          constant_plain : (c : ℕ) → constant_of e ≡ Some c → IsTrue (is_plain e)
+          constant_plain c is = ap (λ k. is_some k || has_plain_parts e) is
+      by_constant_of None is = subst (λ l. IsLoweredTo rows words inputs e l v t top env) (sym (unfolded e v t is)) (parts v t top env is ready)
+
+  parts_lower : (e : Term) → LowersTo e
+  parts_lower (term.Lit c) v t top env none ready = absurd cc
+  parts_lower (term.Truth b) v t top env none ready = absurd cc
+  parts_lower (term.Var k) v t top env none ready = plain_parts_comes (term.Var k) v t top env none refl ready
+  parts_lower (term.Param k) v t top env none ready = plain_parts_comes (term.Param k) v t top env none refl ready
+  parts_lower (term.Len k) v t top env none ready = plain_parts_comes (term.Len k) v t top env none refl ready
+  parts_lower (term.Neg a) v t top env none ready =
+      let part = part_within a (term.Neg a) v t top env ready.has ready.apart ready.in_place ready (parts_room (term.Neg a) t top none ready.room) in
+      minus_comes a v t top env (is_plain a) refl none ready part (folded_comes a (parts_lower a) v t top env part)
+  parts_lower (term.Not a) v t top env none ready =
+      let part = part_within a (term.Not a) v t top env ready.has ready.apart ready.in_place ready (parts_room (term.Not a) t top none ready.room) in
+      not_comes a v t top env part (folded_comes a (parts_lower a) v t top env part)
+  parts_lower (term.Bin o a b) v t top env none ready =
+      operation_comes o a b v t top env none ready (folded_comes a (parts_lower a) v t top env (left_ready o a b v t top env none ready))
+      (λ env' part. folded_comes b (parts_lower b) t (t + 1) top env' part)
+  parts_lower (term.And a b) v t top env none ready =
+      connected_comes Conjunction a b (term.And a b) v t top env (constant_of a) refl (λ c is. conjunction_decided a b c none is) refl
+      (parts_room (term.And a b) t top none ready.room)
+      (part_within a (term.And a b) v t top env ready.has.0 ready.apart.0 ready.in_place.0 ready) (part_within b (term.And a b) v t top env ready.has.1 ready.apart.1 ready.in_place.1 ready)
+      (λ env' part. folded_comes a (parts_lower a) v t top env' part) (λ env' part. folded_comes b (parts_lower b) v t top env' part)
+  parts_lower (term.Or a b) v t top env none ready =
+      connected_comes Disjunction a b (term.Or a b) v t top env (constant_of a) refl (λ c is. disjunction_decided a b c none is) refl
+      (parts_room (term.Or a b) t top none ready.room)
+      (part_within a (term.Or a b) v t top env ready.has.0 ready.apart.0 ready.in_place.0 ready) (part_within b (term.Or a b) v t top env ready.has.1 ready.apart.1 ready.in_place.1 ready)
+      (λ env' part. folded_comes a (parts_lower a) v t top env' part) (λ env' part. folded_comes b (parts_lower b) v t top env' part)
+  parts_lower (term.If c a b) v t top env none ready =
+      chosen_comes c a b v t top env (constant_of c) refl (parts_room (term.If c a b) t top none ready.room)
+      (part_within c (term.If c a b) v t top env ready.has.0 ready.apart.0 ready.in_place.0 ready)
+      (part_within a (term.If c a b) v t top env ready.has.1.0 ready.apart.1.0 ready.in_place.1.0 ready)
+      (part_within b (term.If c a b) v t top env ready.has.1.1 ready.apart.1.1 ready.in_place.1.1 ready)
+      (λ env' part. folded_comes c (parts_lower c) v t top env' part) (λ env' part. folded_comes a (parts_lower a) v t top env' part)
+      (λ env' part. folded_comes b (parts_lower b) v t top env' part)
+
   pub lowers : (e : Term) (v t top : ℕ) (env : List ℕ) → Ready rows words inputs e v t top env → IsLowered rows words inputs e v t top env
-  lowers (term.Lit c) v t top env ready = plain_comes rows words inputs laws (term.Lit c) v t top env refl ready
-  lowers (term.Truth b) v t top env ready = plain_comes rows words inputs laws (term.Truth b) v t top env refl ready
-  lowers (term.Var k) v t top env ready = plain_comes rows words inputs laws (term.Var k) v t top env refl ready
-  lowers (term.Param k) v t top env ready = plain_comes rows words inputs laws (term.Param k) v t top env refl ready
-  lowers (term.Len k) v t top env ready = plain_comes rows words inputs laws (term.Len k) v t top env refl ready
-  lowers (term.Neg a) v t top env ready =
-      let part = part_ready a (term.Neg a) v t top env (omega arith) ready.has ready.apart ready.in_place ready in
-      minus_comes a v t top env (is_plain a) refl ready part (lowers a v t top env part)
-  lowers (term.Not a) v t top env ready =
-      let part = part_ready a (term.Not a) v t top env (omega arith) ready.has ready.apart ready.in_place ready in
-      not_comes a v t top env part (lowers a v t top env part)
-  lowers (term.Bin o a b) v t top env ready =
-      operation_comes o a b v t top env ready (lowers a v t top env (left_ready o a b v t top env ready))
-      (λ env' part. lowers b t (t + 1) top env' part)
-  lowers (term.And a b) v t top env ready =
-      let first = part_ready a (term.And a b) v t top env (omega arith) ready.has.0 ready.apart.0 ready.in_place.0 ready in
-      let second = part_ready b (term.And a b) v t top env (omega arith) ready.has.1 ready.apart.1 ready.in_place.1 ready in
-      connective_comes a b v t top env first second (lowers a v t top env first) (λ env' part. lowers b v t top env' part) Conjunction (term.And a b) (is_empty (lowered_term rows b v t).block) refl
-  lowers (term.Or a b) v t top env ready =
-      let first = part_ready a (term.Or a b) v t top env (omega arith) ready.has.0 ready.apart.0 ready.in_place.0 ready in
-      let second = part_ready b (term.Or a b) v t top env (omega arith) ready.has.1 ready.apart.1 ready.in_place.1 ready in
-      connective_comes a b v t top env first second (lowers a v t top env first) (λ env' part. lowers b v t top env' part) Disjunction (term.Or a b) (is_empty (lowered_term rows b v t).block) refl
-  lowers (term.If c a b) v t top env ready =
-      let first = part_ready c (term.If c a b) v t top env (omega arith) ready.has.0 ready.apart.0 ready.in_place.0 ready in
-      let second = part_ready a (term.If c a b) v t top env (omega arith) ready.has.1.0 ready.apart.1.0 ready.in_place.1.0 ready in
-      let third = part_ready b (term.If c a b) v t top env (omega arith) ready.has.1.1 ready.apart.1.1 ready.in_place.1.1 ready in
-      choice_comes c a b v t top env first second third (lowers c v t top env first) (λ env' part. lowers a v t top env' part) (λ env' part. lowers b v t top env' part)
+  lowers e v t top env ready = folded_comes e (parts_lower e) v t top env ready
 
   -- the statements of an expression put its value into the target, or return 1
   pub value_comes : (e : Term) (v t top : ℕ) (env : List ℕ) → Ready rows words inputs e v t top env → ComesTo inputs (into (lowered_term rows e v t) v) env v t top (IsIn v) (value e words inputs)

@@ -1,14 +1,14 @@
 -- Two operands, one after the other: the left one in the target, the right one in the first temporary.
-use Rattle.std.proofs.Common.{◌≡◌, ℕ, ◌+◌, ◌<◌, ◌≤◌, Bool, true, false, List, length, refl, sym, ap, ◌∙◌, subst}
+use Rattle.std.proofs.Common.{◌≡◌, ℕ, ◌+◌, ◌<◌, ◌≤◌, Bool, true, false, List, length, Option, Some, None, refl, sym, ap, ◌∙◌, subst}
 use Rattle.std.specs.Prelude.{slice_index, IsTrue}
 use Rattle.list_denotation.specs.declared.input.Input.{Input}
-use Rattle.list_denotation.specs.Terms as term
 use Rattle.list_denotation.specs.Terms.{Term}
 use Rattle.list_denotation.specs.Values.{Got, Is, Fails, with_value, value}
 use Rattle.loop_ir.specs.Statements.{Operand, Var, Block, Nil, join}
 use Rattle.expr_phrases.specs.Results.{IsKnown, HasValue}
 use Rattle.expr_lower.specs.Contract.{Kept, GoesOn, ComesTo, IsIn}
-use Rattle.expr_phrases.specs.Simple.{literal_of, negated_constant, constant_of, is_simple}
+use Rattle.expr_constants.specs.Constants.{constant_of}
+use Rattle.expr_constants.specs.Simple.{is_simple}
 use Rattle.expr_lower.specs.Lowering.{Lowered, as_word, operand_block, operand_in, division_operand_block, division_operand_in, into, lowered_term}
 use Rattle.expr_lower.specs.Costs.{is_plain, temps_of}
 use Rattle.expr_lower.specs.Laws.{Laws}
@@ -21,14 +21,12 @@ use Rattle.expr_lower.proofs.PlainValues.{plain_value, plain_lowered, value_plai
 use Rattle.expr_lower.proofs.ValueUses.{IsFound, IsOperand, still_in_place, operand_comes, target_comes}
 
 -- the value of a constant is that constant
-constant_known : (e : Term) (words : List ℕ) (inputs : List Input) (x : ℕ) → value e words inputs ≡ Is x → IsKnown (constant_of e) x
-constant_known (term.Lit c) words inputs x h = cc
-constant_known (term.Neg a) words inputs x h = minus_known a words inputs x h
+constant_known : (laws : Laws) (e : Term) (words : List ℕ) (inputs : List Input) (x : ℕ) → value e words inputs ≡ Is x → IsKnown (constant_of e) x
+constant_known laws e words inputs x h = by_constant_of (constant_of e) refl
   where
-    minus_known : (a : Term) (words : List ℕ) (inputs : List Input) (x : ℕ) → value (term.Neg a) words inputs ≡ Is x → IsKnown (negated_constant (literal_of a)) x
-    minus_known (term.Lit c) words inputs x h = cc
-    minus_known _ words inputs x h = tt
-constant_known _ words inputs x h = tt
+    by_constant_of : (k : Option ℕ) → constant_of e ≡ k → IsKnown k x
+    by_constant_of (Some c) is = let known : value e words inputs ≡ Is c = laws.constant_value e c words inputs is in cc
+    by_constant_of None is = tt
 
 module _ (rows words : List ℕ) (inputs : List Input) where
   -- an expression whose statements may run: target and temporaries are there, and apart from what it reads
@@ -52,34 +50,36 @@ module _ (rows words : List ℕ) (inputs : List Input) where
     in_place = still_in_place rows words inputs e v t top env env' ready.apart kept ready.in_place;
   }
 
-  -- the lowered expression comes to its value
+  -- what the expression is lowered to comes to its value
+  abbrev pub IsLoweredTo : Term → Lowered → ℕ → ℕ → ℕ → List ℕ → Type 0
+  IsLoweredTo e l v t top env = ComesTo inputs l.block env v t top (IsFound rows words inputs e l.form v) (value e words inputs)
+
   abbrev pub IsLowered : Term → ℕ → ℕ → ℕ → List ℕ → Type 0
-  IsLowered e v t top env =
-      ComesTo inputs (lowered_term rows e v t).block env v t top (IsFound rows words inputs e (lowered_term rows e v t).form v) (value e words inputs)
+  IsLowered e v t top env = IsLoweredTo e (lowered_term rows e v t) v t top env
 
   -- ---- the operand that is kept
 
   -- what is known of the value of the expression
-  knowing : (e : Term) (block : Block) (v t top : ℕ) (env : List ℕ) (P : ℕ → List ℕ → Type 0) (g : Got ℕ) → value e words inputs ≡ g → ComesTo inputs block env v t top P g → ComesTo inputs block env v t top (λ x env'. P x env' × IsKnown (constant_of e) x) g
-  knowing e block v t top env P (Is x) is h =
-      record { env' = h.env'; runs = h.runs; kept = h.kept; word = h.word; holds = (h.holds, constant_known e words inputs x is) }
-  knowing e block v t top env P (Fails f) is h = h
+  knowing : (laws : Laws) (e : Term) (block : Block) (v t top : ℕ) (env : List ℕ) (P : ℕ → List ℕ → Type 0) (g : Got ℕ) → value e words inputs ≡ g → ComesTo inputs block env v t top P g → ComesTo inputs block env v t top (λ x env'. P x env' × IsKnown (constant_of e) x) g
+  knowing laws e block v t top env P (Is x) is h =
+      record { env' = h.env'; runs = h.runs; kept = h.kept; word = h.word; holds = (h.holds, constant_known laws e words inputs x is) }
+  knowing laws e block v t top env P (Fails f) is h = h
 
   -- what is known of an operand that stands in w, kept in v
   abbrev pub IsKeptOperand : Term → Operand → ℕ → ℕ → List ℕ → Type 0
   IsKeptOperand e w v x env' = IsOperand rows words inputs e w v x env' × IsKnown (constant_of e) x
 
-  pub left_comes : (e : Term) (v t top : ℕ) (env : List ℕ) → Ready e v t top env → IsLowered e v t top env → ComesTo inputs (operand_block (lowered_term rows e v t) v) env v t top (IsKeptOperand e (operand_in (lowered_term rows e v t).form v) v) (value e words inputs)
-  left_comes e v t top env ready h =
+  pub left_comes : (laws : Laws) (e : Term) (v t top : ℕ) (env : List ℕ) → Ready e v t top env → IsLowered e v t top env → ComesTo inputs (operand_block (lowered_term rows e v t) v) env v t top (IsKeptOperand e (operand_in (lowered_term rows e v t).form v) v) (value e words inputs)
+  left_comes laws e v t top env ready h =
       let l : Lowered = lowered_term rows e v t in
-      knowing e (operand_block l v) v t top env (IsOperand rows words inputs e (operand_in l.form v) v) (value e words inputs) refl
+      knowing laws e (operand_block l v) v t top env (IsOperand rows words inputs e (operand_in l.form v) v) (value e words inputs) refl
       (operand_comes rows words inputs e l.block l.form v t top env (value e words inputs) ready.inside h)
 
   -- an operand that is looked at more than once
-  kept_target_comes : (e : Term) (v t top : ℕ) (env : List ℕ) → Ready e v t top env → IsLowered e v t top env → ComesTo inputs (into (lowered_term rows e v t) v) env v t top (IsKeptOperand e (Var v) v) (value e words inputs)
-  kept_target_comes e v t top env ready h =
+  kept_target_comes : (laws : Laws) (e : Term) (v t top : ℕ) (env : List ℕ) → Ready e v t top env → IsLowered e v t top env → ComesTo inputs (into (lowered_term rows e v t) v) env v t top (IsKeptOperand e (Var v) v) (value e words inputs)
+  kept_target_comes laws e v t top env ready h =
       let l : Lowered = lowered_term rows e v t in
-      knowing e (into l v) v t top env (IsOperand rows words inputs e (Var v) v) (value e words inputs) refl
+      knowing laws e (into l v) v t top env (IsOperand rows words inputs e (Var v) v) (value e words inputs) refl
       (holds_too inputs (into l v) env v t top (IsIn v) (IsOperand rows words inputs e (Var v) v) (value e words inputs)
       (target_comes rows words inputs e l.block l.form v t top env (value e words inputs) ready.inside ready.apart ready.in_place h)
       (λ x env' word kept is. λ env'' in_place same. ap Is (same ∙ is)))
@@ -136,9 +136,9 @@ module _ (rows words : List ℕ) (inputs : List Input) where
         let word : Operand = plain_word rows e in
         let x : ℕ = plain_value e words inputs in
         let bare : GoesOn inputs Nil env v t top (IsFound rows words inputs e (as_word word).form v) x =
-        nothing_comes inputs env v t top x (IsFound rows words inputs e (as_word word).form v) (plain_is_word rows words inputs e env plain ready.has ready.in_place)
-        (λ env' in_place. plain_holds rows words inputs laws e env' plain in_place) in
-        subst (λ g. ComesTo inputs (lowered_term rows e v t).block env v t top (IsFound rows words inputs e (lowered_term rows e v t).form v) g) (sym (value_plain e words inputs plain))
+        nothing_comes inputs env v t top x (IsFound rows words inputs e (as_word word).form v) (plain_is_word laws rows words inputs env e plain ready.has ready.in_place)
+        (λ env' in_place. plain_holds laws rows words inputs env' e plain in_place) in
+        subst (λ g. ComesTo inputs (lowered_term rows e v t).block env v t top (IsFound rows words inputs e (lowered_term rows e v t).form v) g) (sym (value_plain laws words inputs e plain))
         (subst (λ l. ComesTo inputs l.block env v t top (IsFound rows words inputs e l.form v) (Is x)) (sym (plain_lowered rows e v t plain)) bare)
 
     -- ---- an operand that is looked at more than once
@@ -149,43 +149,43 @@ module _ (rows words : List ℕ) (inputs : List Input) where
         let word : Operand = plain_word rows e in
         let x : ℕ = plain_value e words inputs in
         let bare : GoesOn inputs Nil env v t top (IsKeptOperand e word v) x =
-        nothing_comes inputs env v t top x (IsKeptOperand e word v) (plain_is_word rows words inputs e env plain has in_place)
-        ((λ env' there same. plain_holds rows words inputs laws e env' plain there), constant_known e words inputs x (value_plain e words inputs plain)) in
-        subst (λ g. ComesTo inputs Nil env v t top (IsKeptOperand e (operand_in (lowered_term rows e v t).form v) v) g) (sym (value_plain e words inputs plain))
+        nothing_comes inputs env v t top x (IsKeptOperand e word v) (plain_is_word laws rows words inputs env e plain has in_place)
+        ((λ env' there same. plain_holds laws rows words inputs env' e plain there), constant_known laws e words inputs x (value_plain laws words inputs e plain)) in
+        subst (λ g. ComesTo inputs Nil env v t top (IsKeptOperand e (operand_in (lowered_term rows e v t).form v) v) g) (sym (value_plain laws words inputs e plain))
         (subst (λ l. ComesTo inputs Nil env v t top (IsKeptOperand e (operand_in l.form v) v) (Is x)) (sym (plain_lowered rows e v t plain)) bare)
 
     pub division_operand_comes : (e : Term) (v t top : ℕ) (env : List ℕ) (simple : Bool) → is_simple e ≡ simple → Ready e v t top env → IsLowered e v t top env → ComesTo inputs (division_operand_block e (lowered_term rows e v t) v) env v t top (IsKeptOperand e (division_operand_in e (lowered_term rows e v t).form v) v) (value e words inputs)
     division_operand_comes e v t top env true is ready h = rw (is) (simple_comes e v t top env is ready.has ready.in_place)
-    division_operand_comes e v t top env false is ready h = rw (is) (kept_target_comes e v t top env ready h)
+    division_operand_comes e v t top env false is ready h = rw (is) (kept_target_comes laws e v t top env ready h)
 
     -- ---- the right operand
 
     -- without statements
     bare_right : (e : Term) (v t top : ℕ) (env : List ℕ) → IsTrue (is_plain e) → EachLeaf IsWordLeaf e → WordsInPlace rows words inputs env e → GoesOn inputs Nil env v t top (IsRight e (plain_word rows e) v t env) (plain_value e words inputs)
     bare_right e v t top env plain has in_place =
-        nothing_comes inputs env v t top (plain_value e words inputs) (IsRight e (plain_word rows e) v t env) (plain_is_word rows words inputs e env plain has in_place)
-        (((λ env' there same. plain_holds rows words inputs laws e env' plain there), constant_known e words inputs (plain_value e words inputs) (value_plain e words inputs plain)), refl)
+        nothing_comes inputs env v t top (plain_value e words inputs) (IsRight e (plain_word rows e) v t env) (plain_is_word laws rows words inputs env e plain has in_place)
+        (((λ env' there same. plain_holds laws rows words inputs env' e plain there), constant_known laws e words inputs (plain_value e words inputs) (value_plain laws words inputs e plain)), refl)
 
     pub right_comes : (e : Term) (v t top : ℕ) (env : List ℕ) (plain : Bool) → is_plain e ≡ plain → IsOutside t top v → EachLeaf IsWordLeaf e → WordsInPlace rows words inputs env e → (plain ≡ false → (t < top) × Ready e t (t + 1) top env × IsLowered e t (t + 1) top env) → ComesTo inputs (operand_block (lowered_term rows e t (t + 1)) t) env v t top (IsRight e (operand_in (lowered_term rows e t (t + 1)).form t) v t env) (value e words inputs)
     right_comes e v t top env true is outside has in_place lower =
-        subst (λ g. ComesTo inputs (operand_block (lowered_term rows e t (t + 1)) t) env v t top (IsRight e (operand_in (lowered_term rows e t (t + 1)).form t) v t env) g) (sym (value_plain e words inputs is))
+        subst (λ g. ComesTo inputs (operand_block (lowered_term rows e t (t + 1)) t) env v t top (IsRight e (operand_in (lowered_term rows e t (t + 1)).form t) v t env) g) (sym (value_plain laws words inputs e is))
         (subst (λ l. ComesTo inputs (operand_block l t) env v t top (IsRight e (operand_in l.form t) v t env) (Is (plain_value e words inputs))) (sym (plain_lowered rows e t (t + 1) is))
         (bare_right e v t top env is has in_place))
     right_comes e v t top env false is outside has in_place lower =
         let l : Lowered = lowered_term rows e t (t + 1) in
         let h = lower refl in
         right_frame e (operand_in l.form t) (operand_block l t) v t top env (value e words inputs) h.0 outside
-        (left_comes e t (t + 1) top env h.1 h.2)
+        (left_comes laws e t (t + 1) top env h.1 h.2)
 
     pub division_right_comes : (e : Term) (v t top : ℕ) (env : List ℕ) (simple : Bool) → is_simple e ≡ simple → IsOutside t top v → EachLeaf IsWordLeaf e → WordsInPlace rows words inputs env e → (simple ≡ false → (t < top) × Ready e t (t + 1) top env × IsLowered e t (t + 1) top env) → ComesTo inputs (division_operand_block e (lowered_term rows e t (t + 1)) t) env v t top (IsRight e (division_operand_in e (lowered_term rows e t (t + 1)).form t) v t env) (value e words inputs)
     division_right_comes e v t top env true is outside has in_place lower =
         let plain = simple_plain e is in
         rw (is)
-        (subst (λ g. ComesTo inputs Nil env v t top (IsRight e (operand_in (lowered_term rows e t (t + 1)).form t) v t env) g) (sym (value_plain e words inputs plain))
+        (subst (λ g. ComesTo inputs Nil env v t top (IsRight e (operand_in (lowered_term rows e t (t + 1)).form t) v t env) g) (sym (value_plain laws words inputs e plain))
         (subst (λ l. ComesTo inputs Nil env v t top (IsRight e (operand_in l.form t) v t env) (Is (plain_value e words inputs))) (sym (plain_lowered rows e t (t + 1) plain))
         (bare_right e v t top env plain has in_place)))
     division_right_comes e v t top env false is outside has in_place lower =
         let h = lower refl in
         rw (is)
         (right_frame e (Var t) (into (lowered_term rows e t (t + 1)) t) v t top env (value e words inputs) h.0 outside
-        (kept_target_comes e t (t + 1) top env h.1 h.2))
+        (kept_target_comes laws e t (t + 1) top env h.1 h.2))

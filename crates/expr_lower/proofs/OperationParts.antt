@@ -1,7 +1,7 @@
 -- The statements of an expression, from those of its parts. The code appends those of each part, and then those of the expression
 -- itself, whose parts have run by then.
-use Rattle.std.proofs.Common.{◌≡◌, ℕ, ◌+◌, ◌-◌, ◌<◌, ◌^◌, List, Bool, true, false, ◌&&◌, refl, sym, ap, ◌∙◌, arith}
-use Rattle.std.specs.Prelude.{IsTrue, if◌then◌else◌, min, max}
+use Rattle.std.proofs.Common.{◌≡◌, ℕ, zero, suc, ◌+◌, ◌-◌, ◌<◌, ◌^◌, List, Option, Some, None, Bool, true, false, ◌&&◌, ◌||◌, refl, sym, ap, ◌∙◌, arith}
+use Rattle.std.specs.Prelude.{IsTrue, if◌then◌else◌, is_some, min, max}
 use Rattle.list_denotation.specs.declared.expr.BinOp.{BinOp}
 use Rattle.list_denotation.specs.declared.expr.BinOp.TheVariants as sign
 use Rattle.list_denotation.specs.Terms as term
@@ -10,22 +10,23 @@ use Rattle.loop_ir.specs.declared.syntax.WOp.{WOp}
 use Rattle.loop_ir.specs.declared.syntax.WOp.TheVariants as op
 use Rattle.loop_ir.specs.Statements.{Operand, Var, Block, Nil, join}
 use Rattle.expr_phrases.specs.Phrases.{Division, Quotient, Remainder, minus, set, by_divisor}
-use Rattle.expr_phrases.specs.Simple.{constant_of, is_simple}
+use Rattle.expr_constants.specs.Constants.{constant_of}
+use Rattle.expr_constants.specs.Simple.{is_simple}
 use Rattle.expr_lower.specs.Lowering.{Form, AWord, ATest, InTarget, is_word, as_word, in_target, operand_rest, operand_in, target_rest, lowered_minus, lowered_arithmetic, lowered_comparison, lowered_division, lowered_operation, lowered_term}
 use Rattle.strm_num.proofs.Truths.{both_true}
-use Rattle.expr_lower.specs.Costs.{is_arithmetic, is_plain, is_direct, temps_of}
+use Rattle.expr_lower.specs.Costs.{is_arithmetic, chosen_plain, has_plain_parts, is_plain, is_direct, unless_constant, chosen_temps, parts_temps, temps_of}
 use Rattle.expr_lower.specs.FormCopies.{after_statements, without_statements, as_operand, kept_form, kept_rest}
 use Rattle.loop_ir.proofs.Copies.{join_join}
-use Rattle.expr_lower.proofs.Plain.{plain_form, plain_block, simple_plain}
+use Rattle.expr_lower.proofs.Plain.{plain_form, simple_plain}
 use Rattle.expr_lower.proofs.PlainValues.{plain_lowered}
 
 -- ---- what is a word needs no statements
 
 pub word_bare : (rows : List ℕ) (e : Term) (v t : ℕ) → IsTrue (is_word (lowered_term rows e v t).form) → (lowered_term rows e v t).block ≡ Nil
-word_bare rows e v t h = plain_block rows e v t (sym (plain_form rows e v t) ∙ h)
+word_bare rows e v t h = ap (λ l. l.block) (plain_lowered rows e v t (sym (plain_form rows e v t) ∙ h))
 
 pub simple_bare : (rows : List ℕ) (e : Term) (v t : ℕ) → IsTrue (is_simple e) → (lowered_term rows e v t).block ≡ Nil
-simple_bare rows e v t h = plain_block rows e v t (simple_plain e h)
+simple_bare rows e v t h = ap (λ l. l.block) (plain_lowered rows e v t (simple_plain e h))
 
 -- ---- a minus
 
@@ -146,17 +147,33 @@ none_kept : (d : Bool) (first second : ℕ) → IsTrue d → first ≡ 0 → max
 none_kept true first second h e = omega arith
 none_kept false first second h e = absurd cc
 
-pub plain_temps : (e : Term) → IsTrue (is_plain e) → temps_of e ≡ 0
-plain_temps (term.Neg a) h = plain_temps a h
-plain_temps (term.Bin o a b) h =
+none_folded : (k : Option ℕ) (parts : Bool) (n : ℕ) → (IsTrue parts → n ≡ 0) → IsTrue (is_some k || parts) → unless_constant k n ≡ 0
+none_folded (Some c) parts n f h = refl
+none_folded None parts n f h = f h
+
+none_chosen : (condition : Option ℕ) (first second : Bool) (l m n : ℕ) → (IsTrue first → m ≡ 0) → (IsTrue second → n ≡ 0) → IsTrue (chosen_plain condition first second) → chosen_temps condition l m n ≡ 0
+none_chosen (Some zero) first second l m n f g h = g h
+none_chosen (Some (suc x)) first second l m n f g h = f h
+none_chosen None first second l m n f g h = absurd cc
+
+no_parts_temps : (e : Term) → IsTrue (has_plain_parts e) → parts_temps e ≡ 0
+no_parts_temps (term.Neg a) h = none_folded (constant_of a) (has_plain_parts a) (parts_temps a) (no_parts_temps a) h
+no_parts_temps (term.Bin o a b) h =
     let first = both_true (is_arithmetic o) (is_plain a && is_plain b) h in
     let rest = both_true (is_plain a) (is_plain b) first.1 in
-    none_kept (is_direct o b) (temps_of a) (temps_of b + 1) (arithmetic_direct o b first.0 ∙ rest.1) (plain_temps a rest.0)
-plain_temps (term.Not a) h = absurd cc
-plain_temps (term.And a b) h = absurd cc
-plain_temps (term.Or a b) h = absurd cc
-plain_temps (term.If c a b) h = absurd cc
-plain_temps _ h = refl
+    none_kept (is_direct o b) (temps_of a) (temps_of b + 1) (arithmetic_direct o b first.0 ∙ rest.1)
+    (none_folded (constant_of a) (has_plain_parts a) (parts_temps a) (no_parts_temps a) rest.0)
+no_parts_temps (term.Not a) h = absurd cc
+no_parts_temps (term.And a b) h = absurd cc
+no_parts_temps (term.Or a b) h = absurd cc
+no_parts_temps (term.If c a b) h =
+    none_chosen (constant_of c) (is_plain a) (is_plain b) (temps_of c) (temps_of a) (temps_of b)
+    (none_folded (constant_of a) (has_plain_parts a) (parts_temps a) (no_parts_temps a))
+    (none_folded (constant_of b) (has_plain_parts b) (parts_temps b) (no_parts_temps b)) h
+no_parts_temps _ h = refl
+
+pub plain_temps : (e : Term) → IsTrue (is_plain e) → temps_of e ≡ 0
+plain_temps e h = none_folded (constant_of e) (has_plain_parts e) (parts_temps e) (no_parts_temps e) h
 
 -- the first temporary of a right operand, which no direct one uses: t + 1, or the last variable where there is none
 abbrev pub next_temp : ℕ → ℕ
@@ -166,7 +183,7 @@ fits_if : (d : Bool) (first second t : ℕ) → (IsTrue d → second ≡ 0) → 
 fits_if true first second t h lt = let e : second ≡ 0 = h refl in omega arith
 fits_if false first second t h lt = omega arith
 
-pub right_fits : (o : BinOp) (a b : Term) (t : ℕ) → t + temps_of (term.Bin o a b) < 2 ^ 32 → next_temp t + temps_of b < 2 ^ 32
+pub right_fits : (o : BinOp) (a b : Term) (t : ℕ) → t + parts_temps (term.Bin o a b) < 2 ^ 32 → next_temp t + temps_of b < 2 ^ 32
 right_fits o a b t lt =
     fits_if (is_direct o b) (temps_of a) (temps_of b) t (λ d. plain_temps b (direct_plain o b d)) lt
 
@@ -177,5 +194,5 @@ at_next_if rows b false first t h lt =
     let e : next_temp t ≡ t + 1 = omega arith in
     ap (lowered_term rows b t) e
 
-pub at_next : (rows : List ℕ) (o : BinOp) (a b : Term) (t : ℕ) → t + temps_of (term.Bin o a b) < 2 ^ 32 → lowered_term rows b t (next_temp t) ≡ lowered_term rows b t (t + 1)
+pub at_next : (rows : List ℕ) (o : BinOp) (a b : Term) (t : ℕ) → t + parts_temps (term.Bin o a b) < 2 ^ 32 → lowered_term rows b t (next_temp t) ≡ lowered_term rows b t (t + 1)
 at_next rows o a b t lt = at_next_if rows b (is_direct o b) (temps_of a) t (direct_plain o b) lt

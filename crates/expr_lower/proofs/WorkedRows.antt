@@ -1,5 +1,5 @@
 -- Worked expressions: what their statements are, and what they do.
-use Rattle.std.specs.Prelude.{◌≡◌, refl, ◌-◌, ◌^◌, [], ◌∷◌}
+use Rattle.std.specs.Prelude.{◌≡◌, refl, true, ◌-◌, ◌^◌, [], ◌∷◌}
 use Rattle.list_denotation.specs.declared.expr.BinOp.TheVariants as sign
 use Rattle.list_denotation.specs.Terms as term
 use Rattle.list_denotation.specs.Terms.{Term}
@@ -7,9 +7,9 @@ use Rattle.list_denotation.specs.Values.{Trap}
 use Rattle.list_denotation.specs.Observation.{Failed}
 use Rattle.loop_ir.specs.declared.syntax.WOp.TheVariants as op
 use Rattle.loop_ir.specs.declared.syntax.Verdict.TheVariants as verdict
-use Rattle.loop_ir.specs.Statements.{Const, Var, Bin, Same, Less, Set, If, Ret, Nil, Cons}
+use Rattle.loop_ir.specs.Statements.{Const, Var, Int, Bin, Same, Less, Not, Set, If, Ret, Nil, Cons}
 use Rattle.loop_ir.specs.Meaning.{Runs, Over, run}
-use Rattle.expr_lower.specs.Lowering.{lowered_into}
+use Rattle.expr_lower.specs.Lowering.{lowered_into, lowered_test}
 use Rattle.expr_lower.specs.Costs.{cost, temps_of}
 
 -- 10 / x
@@ -72,3 +72,37 @@ two_quotients = refl
 
 its_cost : cost guarded ≡ 18
 its_cost = refl
+
+-- x > 1: the top bit of the constant is turned round here
+above_one_text : (lowered_test (1 ∷ []) (term.Bin sign.Gt (term.Var 0) (term.Lit 1)) 2 3).test
+    ≡ Less (Const 9223372036854775809) (Bin op.Xor (Var 1) (Const 9223372036854775808))
+above_one_text = refl
+
+-- x >= 0: the top bit alone tells
+natural_text : (lowered_test (1 ∷ []) (term.Bin sign.Ge (term.Var 0) (term.Lit 0)) 2 3).test ≡ Less (Var 1) (Const 9223372036854775808)
+natural_text = refl
+
+-- if e < 0 then 0 else e
+abbrev at_least_zero : Term → Term
+at_least_zero e = term.If (term.Bin sign.Lt e (term.Lit 0)) (term.Lit 0) e
+
+constant_text : lowered_into (1 ∷ []) (at_least_zero (term.Lit 5)) 2 3 ≡ Cons (Set 2 (Const 5)) Nil
+constant_text = refl
+
+negative_text : lowered_into (1 ∷ []) (at_least_zero (term.Neg (term.Lit 5))) 2 3 ≡ Cons (Set 2 (Const 0)) Nil
+negative_text = refl
+
+input_text : lowered_into (1 ∷ []) (at_least_zero (term.Param 0)) 2 3
+    ≡ Cons (If (Not (Less (Int 0) (Const (2 ^ 63)))) (Cons (Set 2 (Const 0)) Nil) (Cons (Set 2 (Int 0)) Nil)) Nil
+input_text = refl
+
+-- a part that a constant rules out has neither statements nor temporaries
+ruled_out_text : lowered_into (1 ∷ []) (term.If (term.Truth true) (term.Var 0) (term.Bin sign.Add ten_by ten_by)) 2 3 ≡ Cons (Set 2 (Var 1)) Nil
+ruled_out_text = refl
+
+ruled_out_temporaries : temps_of (term.If (term.Truth true) (term.Var 0) (term.Bin sign.Add ten_by ten_by)) ≡ 0
+ruled_out_temporaries = refl
+
+-- true && x == 5 is x == 5
+second_text : (lowered_test (1 ∷ []) (term.And (term.Truth true) (term.Bin sign.Eq (term.Var 0) (term.Lit 5))) 2 3).test ≡ Same (Var 1) (Const 5)
+second_text = refl

@@ -1,10 +1,12 @@
 -- How many statements and temporaries an expression takes.
-use Rattle.std.specs.Prelude.{ℕ, ◌+◌, max, Bool, true, false, ◌&&◌, if◌then◌else◌}
+use Rattle.std.specs.Prelude.{ℕ, ◌+◌, max, Bool, true, false, ◌&&◌, ◌||◌, if◌then◌else◌, Option, is_some}
 use Rattle.list_denotation.specs.declared.expr.BinOp.{BinOp}
 use Rattle.list_denotation.specs.declared.expr.BinOp.TheVariants.{Add, Sub, Mul, Div, Rem, Eq, Ne, Lt, Le, Gt, Ge}
 use Rattle.list_denotation.specs.Terms.{Term, Lit, Truth, Var, Param, Len, Neg, Not, Bin, And, Or, If}
 use Rattle.list_denotation.specs.Typing.{is_division}
-use Rattle.expr_phrases.specs.Simple.{is_leaf, is_simple}
+use Rattle.list_denotation.specs.Values.{choice}
+use Rattle.expr_constants.specs.Constants.{by_constant, constant_of}
+use Rattle.expr_constants.specs.Simple.{is_leaf, is_simple}
 
 abbrev pub operation_cost : BinOp → ℕ
 operation_cost Add = 1
@@ -40,26 +42,57 @@ is_arithmetic Sub = true
 is_arithmetic Mul = true
 is_arithmetic _ = false
 
--- a word of the C text as it is
+-- of a condition that is constant, what the chosen part says, and else no
+abbrev pub chosen_plain : Option ℕ → Bool → Bool → Bool
+chosen_plain c a b = by_constant c (λ x. choice x b a) false
+
+-- a word of the C text by its parts
+abbrev pub has_plain_parts : Term → Bool
+has_plain_parts (Neg a) = is_some (constant_of a) || has_plain_parts a
+has_plain_parts (Bin o a b) =
+    is_arithmetic o && ((is_some (constant_of a) || has_plain_parts a) && (is_some (constant_of b) || has_plain_parts b))
+has_plain_parts (If c a b) =
+    chosen_plain (constant_of c) (is_some (constant_of a) || has_plain_parts a) (is_some (constant_of b) || has_plain_parts b)
+has_plain_parts e = is_leaf e
+
+-- a word of the C text as it is: a constant, or a word by its parts
 abbrev pub is_plain : Term → Bool
-is_plain (Neg a) = is_plain a
-is_plain (Bin o a b) = is_arithmetic o && (is_plain a && is_plain b)
-is_plain e = is_leaf e
+is_plain e = is_some (constant_of e) || has_plain_parts e
 
 -- whether a right operand stands in the text as it is
 abbrev pub is_direct : BinOp → Term → Bool
 is_direct o b = if is_division o then is_simple b else is_plain b
 
--- the temporaries that the statements use: one for each right operand that is kept, at most one for each level of depth
+-- ---- the temporaries that the statements use: one for each right operand that is kept, at most one for each level of
+-- depth. A constant needs none, and a part that a constant rules out isn't counted
+
+abbrev pub unless_constant : Option ℕ → ℕ → ℕ
+unless_constant k n = by_constant k (λ c. 0) n
+
+abbrev pub connected_temps : Option ℕ → ℕ → ℕ → ℕ
+connected_temps first m n = by_constant first (λ c. n) (max m n)
+
+abbrev pub chosen_temps : Option ℕ → ℕ → ℕ → ℕ → ℕ
+chosen_temps condition l m n = by_constant condition (λ x. choice x n m) (max l (max m n))
+
+abbrev pub parts_temps : Term → ℕ
+parts_temps (Lit c) = 0
+parts_temps (Truth b) = 0
+parts_temps (Var k) = 0
+parts_temps (Param k) = 0
+parts_temps (Len k) = 0
+parts_temps (Neg a) = unless_constant (constant_of a) (parts_temps a)
+parts_temps (Not a) = unless_constant (constant_of a) (parts_temps a)
+parts_temps (Bin o a b) =
+    max (unless_constant (constant_of a) (parts_temps a))
+    (if is_direct o b then 0 else unless_constant (constant_of b) (parts_temps b) + 1)
+parts_temps (And a b) =
+    connected_temps (constant_of a) (unless_constant (constant_of a) (parts_temps a)) (unless_constant (constant_of b) (parts_temps b))
+parts_temps (Or a b) =
+    connected_temps (constant_of a) (unless_constant (constant_of a) (parts_temps a)) (unless_constant (constant_of b) (parts_temps b))
+parts_temps (If c a b) =
+    chosen_temps (constant_of c) (unless_constant (constant_of c) (parts_temps c))
+    (unless_constant (constant_of a) (parts_temps a)) (unless_constant (constant_of b) (parts_temps b))
+
 abbrev pub temps_of : Term → ℕ
-temps_of (Lit c) = 0
-temps_of (Truth b) = 0
-temps_of (Var k) = 0
-temps_of (Param k) = 0
-temps_of (Len k) = 0
-temps_of (Neg a) = temps_of a
-temps_of (Not a) = temps_of a
-temps_of (Bin o a b) = max (temps_of a) (if is_direct o b then 0 else temps_of b + 1)
-temps_of (And a b) = max (temps_of a) (temps_of b)
-temps_of (Or a b) = max (temps_of a) (temps_of b)
-temps_of (If c a b) = max (temps_of c) (max (temps_of a) (temps_of b))
+temps_of e = unless_constant (constant_of e) (parts_temps e)

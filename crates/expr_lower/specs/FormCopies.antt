@@ -7,7 +7,7 @@ use Rattle.loop_ir.specs.Statements.{Test, Block, Nil}
 use Rattle.loop_ir.specs.StatementCopies.{operand_of, test_of}
 use Rattle.expr_lower.specs.declared.forms.Form as code
 use Rattle.expr_lower.specs.declared.forms.Form.TheVariants as form
-use Rattle.expr_phrases.specs.Simple.{is_simple}
+use Rattle.expr_constants.specs.Simple.{is_simple}
 use Rattle.expr_lower.specs.Lowering.{Form, AWord, ATest, InTarget, Lowered, Condition, operand_rest, target_rest}
 
 abbrev pub form_of : code.Form → Form

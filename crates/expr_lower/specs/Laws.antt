@@ -1,17 +1,24 @@
 -- The laws of the phrases that the statements of expressions rest on.
-use Rattle.std.specs.Prelude.{◌≡◌, ◌≤◌, ℕ, Bool, not, List, Option, IsTrue}
+use Rattle.std.specs.Prelude.{◌≡◌, ◌≤◌, ℕ, Bool, not, List, Option, Some, IsTrue}
 use Rattle.strm_num.specs.Words.{IsWord, negation_of}
 use Rattle.list_denotation.specs.declared.expr.BinOp.{BinOp}
 use Rattle.list_denotation.specs.declared.input.Input.{Input}
-use Rattle.list_denotation.specs.Values.{Trap, Is, unless_zero}
+use Rattle.list_denotation.specs.Literals.{has_words}
+use Rattle.list_denotation.specs.Terms.{Term}
+use Rattle.list_denotation.specs.Values.{Trap, Is, unless_zero, value}
 use Rattle.loop_ir.specs.Counts.{block_count, block_loops}
 use Rattle.loop_ir.specs.Leaves.{operand_leaves, test_leaves, block_leaves}
 use Rattle.loop_ir.specs.Meaning.{operand_value, test_value}
 use Rattle.loop_ir.specs.Statements.{Operand, Const, Var, Test}
+use Rattle.expr_constants.specs.Constants.{constant_of, IsWordConstant}
 use Rattle.expr_phrases.specs.Phrases.{Division, minus, opposite, comparison_test, by_divisor}
-use Rattle.expr_phrases.specs.Results.{comparison_truth, result_of, IsWordConstant, HasValue, Assigns}
+use Rattle.expr_phrases.specs.Results.{comparison_truth, result_of, HasValue, Assigns}
 
 pub record Laws : Type 0 where
+  -- of constants
+  pub constant_value : (e : Term) (c : ℕ) (words : List ℕ) (inputs : List Input)
+      → constant_of e ≡ Some c → value e words inputs ≡ Is c
+  pub constant_word : (e : Term) → IsTrue (has_words e) → IsWordConstant (constant_of e)
   -- of a minus, and of the opposite of a test
   pub minus_value : (inputs : List Input) (w : Operand) (x : ℕ) (env : List ℕ)
       → operand_value inputs w env ≡ Is x → operand_value inputs (minus w) env ≡ Is (negation_of x)

@@ -1,16 +1,18 @@
 -- The statements of an expression. They put its value into a target variable, or return 1 where it traps. An expression
 -- that needs no statements is a word or a test of the C text as it stands.
-use Rattle.std.specs.Prelude.{ℕ, ◌+◌, Bool, true, false, ◌&&◌, if◌then◌else◌, List, slice_index}
+use Rattle.std.specs.Prelude.{ℕ, ◌+◌, Bool, true, false, ◌&&◌, if◌then◌else◌, Option, List, slice_index}
 use Rattle.strm_num.specs.Words.{truth_of}
 use Rattle.list_denotation.specs.declared.expr.BinOp.{BinOp}
 use Rattle.list_denotation.specs.declared.expr.BinOp.TheVariants as sign
 use Rattle.list_denotation.specs.Terms as term
 use Rattle.list_denotation.specs.Terms.{Term}
+use Rattle.list_denotation.specs.Values.{choice}
 use Rattle.loop_ir.specs.declared.syntax.WOp.{WOp}
 use Rattle.loop_ir.specs.declared.syntax.WOp.TheVariants as op
 use Rattle.loop_ir.specs.Statements.{Operand, Const, Var, Len, Int, Bin, Test, Same, Not, If, Block, Nil, Cons, join}
 use Rattle.expr_phrases.specs.Phrases.{Division, Quotient, Remainder, set, minus, set_truth, opposite, comparison_test, by_divisor, Connective, Conjunction, Disjunction, connected_test, connected_block}
-use Rattle.expr_phrases.specs.Simple.{constant_of, is_simple}
+use Rattle.expr_constants.specs.Constants.{by_constant, constant_of}
+use Rattle.expr_constants.specs.Simple.{is_simple}
 
 -- where the value of an expression is to be found once its statements have run
 pub data Form : Type 0 where
@@ -138,26 +140,50 @@ connective_form o t b = if is_empty b.block then ATest (connected_test o t b.tes
 abbrev pub lowered_connective : Connective → Condition → Condition → ℕ → Lowered
 lowered_connective o a b v = record { block = join a.block (connective_rest o a.test b v); form = connective_form o a.test b }
 
+-- of an expression that isn't constant, where the first part is: the second part decides
+abbrev pub lowered_truth : Condition → Lowered
+lowered_truth c = record { block = c.block; form = ATest c.test }
+
+abbrev pub lowered_connected : Connective → Option ℕ → Condition → Condition → ℕ → Lowered
+lowered_connected o first a b v = by_constant first (λ c. lowered_truth b) (lowered_connective o a b v)
+
 -- the branches put their values into v
 abbrev pub lowered_choice : Condition → Block → Block → Lowered
 lowered_choice c a b = in_target (join c.block (Cons (If c.test a b) Nil))
 
--- an expression whose bound words stand in the variables `rows`, with the target v. Its temporaries are those from t on
+-- a condition that is constant chooses here
+abbrev pub lowered_chosen : Option ℕ → Condition → Lowered → Lowered → ℕ → Lowered
+lowered_chosen condition c a b v = by_constant condition (λ x. choice x b a) (lowered_choice c (into a v) (into b v))
+
+-- a constant is one word, and all else is what its parts give
+abbrev pub folded : Option ℕ → Lowered → Lowered
+folded k l = by_constant k (λ c. as_word (Const c)) l
+
+-- an expression from its parts, whose bound words stand in the variables `rows`, with the target v. Its temporaries are
+-- those from t on
+abbrev pub lowered_parts : List ℕ → Term → ℕ → ℕ → Lowered
+lowered_parts rows (term.Lit c) v t = as_word (Const c)
+lowered_parts rows (term.Truth b) v t = as_word (Const (truth_of b))
+lowered_parts rows (term.Var k) v t = as_word (Var (slice_index rows k))
+lowered_parts rows (term.Param k) v t = as_word (Int k)
+lowered_parts rows (term.Len k) v t = as_word (Len k)
+lowered_parts rows (term.Neg a) v t = lowered_minus (folded (constant_of a) (lowered_parts rows a v t)) v
+lowered_parts rows (term.Not a) v t = lowered_not (condition_of (folded (constant_of a) (lowered_parts rows a v t)) v)
+lowered_parts rows (term.Bin o a b) v t =
+    lowered_operation o a b (folded (constant_of a) (lowered_parts rows a v t)) (folded (constant_of b) (lowered_parts rows b t (t + 1))) v t
+lowered_parts rows (term.And a b) v t =
+    lowered_connected Conjunction (constant_of a) (condition_of (folded (constant_of a) (lowered_parts rows a v t)) v)
+    (condition_of (folded (constant_of b) (lowered_parts rows b v t)) v) v
+lowered_parts rows (term.Or a b) v t =
+    lowered_connected Disjunction (constant_of a) (condition_of (folded (constant_of a) (lowered_parts rows a v t)) v)
+    (condition_of (folded (constant_of b) (lowered_parts rows b v t)) v) v
+lowered_parts rows (term.If c a b) v t =
+    lowered_chosen (constant_of c) (condition_of (folded (constant_of c) (lowered_parts rows c v t)) v)
+    (folded (constant_of a) (lowered_parts rows a v t)) (folded (constant_of b) (lowered_parts rows b v t)) v
+
+-- an expression
 abbrev pub lowered_term : List ℕ → Term → ℕ → ℕ → Lowered
-lowered_term rows (term.Lit c) v t = as_word (Const c)
-lowered_term rows (term.Truth b) v t = as_word (Const (truth_of b))
-lowered_term rows (term.Var k) v t = as_word (Var (slice_index rows k))
-lowered_term rows (term.Param k) v t = as_word (Int k)
-lowered_term rows (term.Len k) v t = as_word (Len k)
-lowered_term rows (term.Neg a) v t = lowered_minus (lowered_term rows a v t) v
-lowered_term rows (term.Not a) v t = lowered_not (condition_of (lowered_term rows a v t) v)
-lowered_term rows (term.Bin o a b) v t = lowered_operation o a b (lowered_term rows a v t) (lowered_term rows b t (t + 1)) v t
-lowered_term rows (term.And a b) v t =
-    lowered_connective Conjunction (condition_of (lowered_term rows a v t) v) (condition_of (lowered_term rows b v t) v) v
-lowered_term rows (term.Or a b) v t =
-    lowered_connective Disjunction (condition_of (lowered_term rows a v t) v) (condition_of (lowered_term rows b v t) v) v
-lowered_term rows (term.If c a b) v t =
-    lowered_choice (condition_of (lowered_term rows c v t) v) (into (lowered_term rows a v t) v) (into (lowered_term rows b v t) v)
+lowered_term rows e v t = folded (constant_of e) (lowered_parts rows e v t)
 
 -- the statements that put the value of the expression into v
 abbrev pub lowered_into : List ℕ → Term → ℕ → ℕ → Block

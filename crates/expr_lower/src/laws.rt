@@ -15,14 +15,16 @@ ghost use Rattle.expr_lower.specs.Laws.{Laws};
 ghost use Rattle.expr_lower.specs.PlainWords.{plain_word};
 ghost use Rattle.expr_lower.specs.Scopes.{WordsInPlace, ScopeInPlace, MayNameWords};
 
+use expr_constants::constants_are_values;
 use expr_phrases::{
     comparisons_tell_the_signed_order, divisions_assign_signed_results, opposites_negate,
 };
 
-/// What expr_phrases promises of its definitions.
+/// What expr_constants and expr_phrases promise of their definitions.
 pub fn laws_below()
     ensures { Laws }
 {
+    constants_are_values();
     opposites_negate();
     comparisons_tell_the_signed_order();
     divisions_assign_signed_results();

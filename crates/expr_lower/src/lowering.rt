@@ -4,8 +4,9 @@ ghost use Rattle.std.specs.Prelude.{◌≡◌, ℕ, ◌+◌, ◌<◌, ◌^◌, m
 ghost use Rattle.list_denotation.specs.Copies.{term_of};
 ghost use Rattle.list_denotation.specs.Terms.{Bin};
 ghost use Rattle.loop_ir.specs.StatementCopies.{operand_of, test_of};
-ghost use Rattle.expr_lower.specs.Lowering.{operand_block, operand_in, lowered_connective, lowered_choice, lowered_term, lowered_into, lowered_test};
-ghost use Rattle.expr_lower.specs.Costs.{temps_of};
+ghost use Rattle.expr_lower.specs.Lowering.{operand_block, operand_in, lowered_connected, lowered_choice, lowered_chosen, lowered_parts, lowered_term, lowered_into, lowered_test};
+ghost use Rattle.expr_constants.specs.Constants.{constant_of};
+ghost use Rattle.expr_lower.specs.Costs.{connected_temps, chosen_temps, parts_temps, temps_of};
 ghost use Rattle.expr_lower.specs.Scopes.{EachLeaf, IsWordLeaf, IsBoundLeaf};
 ghost use Rattle.expr_phrases.specs.PhraseCopies.{connective_of, Appends};
 ghost use Rattle.expr_lower.specs.FormCopies.{form_of};
@@ -13,6 +14,7 @@ ghost use Rattle.expr_lower.specs.FormCopies.{form_of};
 use crate::connectives::connected;
 use crate::forms::{Form, condition, operand, put, word};
 use crate::operations::{Part, keep, negated, operation};
+use expr_constants::constant;
 use expr_phrases::{Connective, opposite};
 use list_denotation::{BinOp, Expr, Words};
 use loop_ir::{Stmt, Stmts, T, W};
@@ -37,10 +39,10 @@ fn row_variable(rows: &Words, k: u32) -> u32
 }
 
 /// Appends the statements of `e`, whose bound words stand in the variables `rows`, and says where
-/// its value is once they have run.
+/// its value is once they have run. A constant is one word.
 #[cycle(terms)]
-#[tactic(auto, using(crate::proofs::Appends::push_steps))]
-fn lower_form(
+#[tactic(auto, using(crate::proofs::Appends::push_steps, crate::proofs::Leaves::word_leaves))]
+pub fn lower_form(
     alloc: Global,
     e: &Expr,
     rows: &Words,
@@ -55,6 +57,30 @@ fn lower_form(
     ensures form { IfOk result (λ f. form_of f
         ≡ (lowered_term rows.now (term_of e.now) frame.target frame.first_temp).form) }
     ensures words { OnOk result (EachLeaf IsWordLeaf (term_of e.now)) }
+{
+    if let Some(c) = constant(e) {
+        return word(alloc, W::Const(c));
+    }
+    lower_parts(alloc, e, rows, frame, block)
+}
+
+/// Appends the statements of an expression from those of its parts.
+#[cycle(terms)]
+#[tactic(auto, using(crate::proofs::Appends::push_steps))]
+fn lower_parts(
+    alloc: Global,
+    e: &Expr,
+    rows: &Words,
+    frame: Frame,
+    block: &mut Stmts,
+) -> Result<Form, NoMemory>
+    requires bound { EachLeaf (IsBoundLeaf (length rows.now)) (term_of e.now) }
+    requires variables { EachIndex rows.now (λ i. slice_index rows.now i < 2 ^ 32) }
+    requires few { frame.first_temp + parts_temps (term_of e.now) < 2 ^ 32 }
+    ensures block { OnOk result (Appends block.old block.new
+        (lowered_parts rows.now (term_of e.now) frame.target frame.first_temp).block) }
+    ensures form { IfOk result (λ f. form_of f
+        ≡ (lowered_parts rows.now (term_of e.now) frame.target frame.first_temp).form) }
 {
     match e {
         Expr::Lit(c) => word(alloc, W::Const(*c)),
@@ -73,10 +99,7 @@ fn lower_form(
         Expr::Bin(op, a, b) => lower_operation(alloc, *op, a, b, rows, frame, block),
         Expr::And(a, b) => lower_connective(alloc, Connective::And, a, b, rows, frame, block),
         Expr::Or(a, b) => lower_connective(alloc, Connective::Or, a, b, rows, frame, block),
-        Expr::If(c, a, b) => {
-            lower_choice(alloc, c, a, b, rows, frame, block)?;
-            Ok(Form::InTarget)
-        }
+        Expr::If(c, a, b) => lower_choice(alloc, c, a, b, rows, frame, block),
     }
 }
 
@@ -95,14 +118,14 @@ fn lower_operation(
     requires bound { EachLeaf (IsBoundLeaf (length rows.now))
         (Bin op (term_of a.now) (term_of b.now)) }
     requires variables { EachIndex rows.now (λ i. slice_index rows.now i < 2 ^ 32) }
-    requires few { frame.first_temp + temps_of (Bin op (term_of a.now) (term_of b.now)) < 2 ^ 32 }
+    requires few { frame.first_temp + parts_temps (Bin op (term_of a.now) (term_of b.now))
+        < 2 ^ 32 }
     ensures block { OnOk result (Appends block.old block.new
-        (lowered_term rows.now (Bin op (term_of a.now) (term_of b.now)) frame.target
+        (lowered_parts rows.now (Bin op (term_of a.now) (term_of b.now)) frame.target
         frame.first_temp).block) }
     ensures form { IfOk result (λ f. form_of f
-        ≡ (lowered_term rows.now (Bin op (term_of a.now) (term_of b.now)) frame.target
+        ≡ (lowered_parts rows.now (Bin op (term_of a.now) (term_of b.now)) frame.target
         frame.first_temp).form) }
-    ensures words { OnOk result (EachLeaf IsWordLeaf (Bin op (term_of a.now) (term_of b.now))) }
 {
     let t = frame.first_temp;
     let form = lower_form(alloc, a, rows, frame, block)?;
@@ -121,7 +144,7 @@ fn lower_operation(
     operation(alloc, op, left, Part { e: b, form, at: t }, block)
 }
 
-/// Appends the statements of `&&` or `||`.
+/// Appends the statements of `&&` or `||`. Where the first part is constant, the second one decides.
 #[cycle(terms)]
 #[tactic(auto, using(crate::proofs::Appends::push_steps))]
 fn lower_connective(
@@ -136,31 +159,74 @@ fn lower_connective(
     requires bound { EachLeaf (IsBoundLeaf (length rows.now)) (term_of a.now)
         × EachLeaf (IsBoundLeaf (length rows.now)) (term_of b.now) }
     requires variables { EachIndex rows.now (λ i. slice_index rows.now i < 2 ^ 32) }
-    requires few { frame.first_temp + max (temps_of (term_of a.now)) (temps_of (term_of b.now))
-        < 2 ^ 32 }
+    requires few { frame.first_temp + connected_temps (constant_of (term_of a.now))
+        (temps_of (term_of a.now)) (temps_of (term_of b.now)) < 2 ^ 32 }
     ensures block { OnOk result (Appends block.old block.new
-        (lowered_connective (connective_of o)
+        (lowered_connected (connective_of o) (constant_of (term_of a.now))
         (lowered_test rows.now (term_of a.now) frame.target frame.first_temp)
         (lowered_test rows.now (term_of b.now) frame.target frame.first_temp)
         frame.target).block) }
     ensures form { IfOk result (λ f. form_of f
-        ≡ (lowered_connective (connective_of o)
+        ≡ (lowered_connected (connective_of o) (constant_of (term_of a.now))
         (lowered_test rows.now (term_of a.now) frame.target frame.first_temp)
         (lowered_test rows.now (term_of b.now) frame.target frame.first_temp)
         frame.target).form) }
-    ensures words { OnOk result (EachLeaf IsWordLeaf (term_of a.now)
-        × EachLeaf IsWordLeaf (term_of b.now)) }
 {
+    if constant(a).is_some() {
+        return Ok(Form::Test(lower_condition(alloc, b, rows, frame, block)?));
+    }
     let first = lower_condition(alloc, a, rows, frame, block)?;
     let mut more = Stmts::new(alloc);
     let second = lower_condition(alloc, b, rows, frame, &mut more)?;
     connected(alloc, o, first, more, second, frame.target, block)
 }
 
-/// Appends the statements that run one of two branches, which puts its value into the target.
+/// Appends the statements of the branch that a constant condition chooses, and else of a choice.
 #[cycle(terms)]
 #[tactic(auto, using(crate::proofs::Appends::push_steps))]
 fn lower_choice(
+    alloc: Global,
+    c: &Expr,
+    a: &Expr,
+    b: &Expr,
+    rows: &Words,
+    frame: Frame,
+    block: &mut Stmts,
+) -> Result<Form, NoMemory>
+    requires bound { EachLeaf (IsBoundLeaf (length rows.now)) (term_of c.now)
+        × (EachLeaf (IsBoundLeaf (length rows.now)) (term_of a.now)
+        × EachLeaf (IsBoundLeaf (length rows.now)) (term_of b.now)) }
+    requires variables { EachIndex rows.now (λ i. slice_index rows.now i < 2 ^ 32) }
+    requires few { frame.first_temp + chosen_temps (constant_of (term_of c.now))
+        (temps_of (term_of c.now)) (temps_of (term_of a.now)) (temps_of (term_of b.now))
+        < 2 ^ 32 }
+    ensures block { OnOk result (Appends block.old block.new
+        (lowered_chosen (constant_of (term_of c.now))
+        (lowered_test rows.now (term_of c.now) frame.target frame.first_temp)
+        (lowered_term rows.now (term_of a.now) frame.target frame.first_temp)
+        (lowered_term rows.now (term_of b.now) frame.target frame.first_temp)
+        frame.target).block) }
+    ensures form { IfOk result (λ f. form_of f
+        ≡ (lowered_chosen (constant_of (term_of c.now))
+        (lowered_test rows.now (term_of c.now) frame.target frame.first_temp)
+        (lowered_term rows.now (term_of a.now) frame.target frame.first_temp)
+        (lowered_term rows.now (term_of b.now) frame.target frame.first_temp)
+        frame.target).form) }
+{
+    match constant(c) {
+        Some(0) => lower_form(alloc, b, rows, frame, block),
+        Some(_) => lower_form(alloc, a, rows, frame, block),
+        None => {
+            lower_branches(alloc, c, a, b, rows, frame, block)?;
+            Ok(Form::InTarget)
+        }
+    }
+}
+
+/// Appends the statements that run one of two branches, which puts its value into the target.
+#[cycle(terms)]
+#[tactic(auto, using(crate::proofs::Appends::push_steps))]
+fn lower_branches(
     alloc: Global,
     c: &Expr,
     a: &Expr,
@@ -179,8 +245,6 @@ fn lower_choice(
         (lowered_choice (lowered_test rows.now (term_of c.now) frame.target frame.first_temp)
         (lowered_into rows.now (term_of a.now) frame.target frame.first_temp)
         (lowered_into rows.now (term_of b.now) frame.target frame.first_temp)).block) }
-    ensures words { OnOk result (EachLeaf IsWordLeaf (term_of c.now)
-        × (EachLeaf IsWordLeaf (term_of a.now) × EachLeaf IsWordLeaf (term_of b.now))) }
 {
     let holds = lower_condition(alloc, c, rows, frame, block)?;
     let mut then = Stmts::new(alloc);

@@ -5,16 +5,15 @@ ghost use Rattle.list_denotation.specs.Copies.{term_of};
 ghost use Rattle.list_denotation.specs.Typing.{is_division};
 ghost use Rattle.loop_ir.specs.Statements.{Nil};
 ghost use Rattle.loop_ir.specs.StatementCopies.{operand_of};
-ghost use Rattle.expr_phrases.specs.Simple.{constant_of, is_simple};
+ghost use Rattle.expr_constants.specs.Constants.{constant_of};
+ghost use Rattle.expr_constants.specs.Simple.{is_simple};
 ghost use Rattle.expr_lower.specs.Lowering.{InTarget, is_word, operand_rest, operand_in, target_rest, division_operand_in, division_operand_block, lowered_minus, lowered_arithmetic, lowered_comparison, lowered_division, lowered_operation};
 ghost use Rattle.expr_phrases.specs.PhraseCopies.{division_of, Appends};
 ghost use Rattle.expr_lower.specs.FormCopies.{form_of, without_statements, as_operand, kept_form, kept_rest};
 
 use crate::forms::{Form, operand, put};
-use expr_phrases::{
-    Division, Side, boxed_word, by_divisor, comparison_test, constant, is_division, is_simple,
-    minus, set_truth,
-};
+use expr_constants::{constant, is_division, is_simple};
+use expr_phrases::{Division, Side, boxed_word, by_divisor, comparison_test, minus, set_truth};
 use list_denotation::{BinOp, Expr};
 use loop_ir::{Stmt, Stmts, W, WOp};
 use std::alloc::Global;

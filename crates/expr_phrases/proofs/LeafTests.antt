@@ -1,17 +1,18 @@
 -- The constants and the names in phrases: what passes in the parts of a phrase passes in the phrase, if word constants do.
-use Rattle.std.proofs.Common.{ℕ, zero, suc, ◌^◌, Bool, true, false, ◌&&◌, Option, Some, None, refl, arith}
-use Rattle.std.specs.Prelude.{IsTrue}
+use Rattle.std.proofs.Common.{ℕ, zero, suc, ◌+◌, ◌^◌, Bool, true, false, ◌&&◌, Option, Some, None, refl, arith}
+use Rattle.std.specs.Prelude.{IsTrue, if◌then◌else◌}
+use Rattle.std.proofs.Math.Nat.{mod-lt}
 use Rattle.strm_num.proofs.Truths.{true_both}
-use Rattle.strm_num.specs.Words.{IsWord}
+use Rattle.strm_num.specs.Words.{IsWord, sum_of}
 use Rattle.strm_num.specs.Magnitudes.{is_negative, magnitude_of}
 use Rattle.list_denotation.specs.declared.expr.BinOp.{BinOp}
 use Rattle.list_denotation.specs.declared.expr.BinOp.TheVariants as sign
 use Rattle.loop_ir.specs.Leaves.{operand_leaves, test_leaves, block_leaves}
 use Rattle.loop_ir.specs.Statements.{Operand, Const, Var, Len, Int, Bin, Test, Less, Same, Both, Either, Not, If, Ret, Block, Nil, Cons}
 use Rattle.loop_ir.specs.declared.syntax.Verdict.TheVariants as verdict
+use Rattle.expr_constants.specs.Constants.{IsWordConstant}
 use Rattle.expr_phrases.specs.Laws.{Laws}
-use Rattle.expr_phrases.specs.Phrases.{Division, set, minus, opposite, flipped_sign, signed_less, comparison_test, division_operator, result_negative, with_minus, divided_magnitudes, by_dividend, by_divisor}
-use Rattle.expr_phrases.specs.Results.{IsWordConstant}
+use Rattle.expr_phrases.specs.Phrases.{Division, set, minus, opposite, is_zero, is_natural, flipped_sign, signed_less, comparison_test, division_operator, result_negative, with_minus, divided_magnitudes, by_dividend, by_divisor}
 
 module _ (passes : Operand → Bool) where
   abbrev InOperand : Operand → Type 0
@@ -51,20 +52,25 @@ module _ (passes : Operand → Bool) where
     -- ---- comparisons
 
     flipped_leaves : (x : Operand) → InOperand x → InOperand (flipped_sign x)
-    flipped_leaves (Const c) h = both (Const (2 ^ 63)) (Const c) sign_passes h
+    flipped_leaves (Const c) h = constants (sum_of c (2 ^ 63)) (mod-lt (c + 2 ^ 63) (omega arith))
     flipped_leaves (Var v) h = both (Var v) (Const (2 ^ 63)) h sign_passes
     flipped_leaves (Len a) h = both (Len a) (Const (2 ^ 63)) h sign_passes
     flipped_leaves (Int k) h = both (Int k) (Const (2 ^ 63)) h sign_passes
     flipped_leaves (Bin o a b) h = both (Bin o a b) (Const (2 ^ 63)) h sign_passes
 
+    natural_leaves : (w : Operand) → InOperand w → InTest (is_natural w)
+    natural_leaves w h = both w (Const (2 ^ 63)) h sign_passes
+
     less_leaves : (x y : Operand) → InOperand x → InOperand y → InTest (signed_less x y)
-    less_leaves x y h k = both (flipped_sign x) (flipped_sign y) (flipped_leaves x h) (flipped_leaves y k)
+    less_leaves x y h k =
+        elim (is_zero y) as (λ b. InTest (if b then Not (is_natural x) else Less (flipped_sign x) (flipped_sign y)))
+        [ true ↦ natural_leaves x h | false ↦ both (flipped_sign x) (flipped_sign y) (flipped_leaves x h) (flipped_leaves y k) ]
 
     pub comparison_leaves : (o : BinOp) (x y : Operand) → InOperand x → InOperand y → InTest (comparison_test o x y)
     comparison_leaves sign.Lt x y h k = less_leaves x y h k
-    comparison_leaves sign.Le x y h k = less_leaves y x k h
+    comparison_leaves sign.Le x y h k = opposite_leaves (signed_less y x) (less_leaves y x k h)
     comparison_leaves sign.Gt x y h k = less_leaves y x k h
-    comparison_leaves sign.Ge x y h k = less_leaves x y h k
+    comparison_leaves sign.Ge x y h k = opposite_leaves (signed_less x y) (less_leaves x y h k)
     comparison_leaves _ x y h k = both x y h k
 
     -- ---- division
@@ -80,9 +86,6 @@ module _ (passes : Operand → Bool) where
     divided_leaves d x y dividend divisor v at h k =
         set_leaves v (divided_magnitudes d x y dividend divisor) at
         (sign_leaves (result_negative d dividend divisor) (Bin (division_operator d) x y) (both x y h k))
-
-    natural_leaves : (w : Operand) → InOperand w → InTest (Less w (Const (2 ^ 63)))
-    natural_leaves w h = both w (Const (2 ^ 63)) h sign_passes
 
     module _ (laws : Laws) where
       magnitude_passes : (c : ℕ) → IsWord c → InOperand (Const (magnitude_of c))

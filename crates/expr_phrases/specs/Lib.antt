@@ -1,5 +1,4 @@
 pub mod Phrases
-pub mod Simple
 pub mod PhraseCopies
 pub mod Results
 pub mod Laws

@@ -1,5 +1,6 @@
 -- The phrases of the C text: of signed arithmetic, and of `&&` and `||`.
-use Rattle.std.specs.Prelude.{ℕ, zero, suc, ◌^◌, Bool, true, false, Option, Some, None}
+use Rattle.std.specs.Prelude.{ℕ, zero, suc, ◌^◌, Bool, true, false, if◌then◌else◌, ◌==◌, Option, Some, None}
+use Rattle.strm_num.specs.Words.{sum_of}
 use Rattle.strm_num.specs.Magnitudes.{is_negative, magnitude_of, xor}
 use Rattle.list_denotation.specs.declared.expr.BinOp.{BinOp}
 use Rattle.list_denotation.specs.declared.expr.BinOp.TheVariants as sign
@@ -28,23 +29,31 @@ opposite (Not t) = t
 
 -- ---- comparisons
 
--- signed order is unsigned order once the top bits are turned round. A constant stands behind the mask, since some
--- compilers take `10 ^ ..` for a power and warn
+abbrev pub is_zero : Operand → Bool
+is_zero (Const n) = n == 0
+is_zero _ = false
+
+-- whether the signed value isn't below 0: the top bit alone tells
+abbrev pub is_natural : Operand → Test
+is_natural w = Less w (Const (2 ^ 63))
+
+-- the word with its top bit turned round, as adding the bit modulo 2 ^ 64 does. That of a constant is a constant
 abbrev pub flipped_sign : Operand → Operand
-flipped_sign (Const c) = Bin op.Xor (Const (2 ^ 63)) (Const c)
+flipped_sign (Const c) = Const (sum_of c (2 ^ 63))
 flipped_sign w = Bin op.Xor w (Const (2 ^ 63))
 
+-- signed order is unsigned order once the top bits are turned round
 abbrev pub signed_less : Operand → Operand → Test
-signed_less a b = Less (flipped_sign a) (flipped_sign b)
+signed_less a b = if is_zero b then Not (is_natural a) else Less (flipped_sign a) (flipped_sign b)
 
 -- the test of a comparison. The last case stands for the operators that compare nothing
 abbrev pub comparison_test : BinOp → Operand → Operand → Test
 comparison_test sign.Eq a b = Same a b
 comparison_test sign.Ne a b = Not (Same a b)
 comparison_test sign.Lt a b = signed_less a b
-comparison_test sign.Le a b = Not (signed_less b a)
+comparison_test sign.Le a b = opposite (signed_less b a)
 comparison_test sign.Gt a b = signed_less b a
-comparison_test sign.Ge a b = Not (signed_less a b)
+comparison_test sign.Ge a b = opposite (signed_less a b)
 comparison_test _ a b = Same a b
 
 -- ---- division, on magnitudes, with the sign set afterwards
@@ -75,7 +84,7 @@ divided_magnitudes d x y dividend divisor =
 abbrev pub by_dividend : Division → Option ℕ → Operand → Operand → Bool → ℕ → Block
 by_dividend d (Some c) x y divisor v = set v (divided_magnitudes d (Const (magnitude_of c)) y (is_negative c) divisor)
 by_dividend d None x y divisor v =
-    Cons (If (Less x (Const (2 ^ 63)))
+    Cons (If (is_natural x)
     (set v (divided_magnitudes d x y false divisor))
     (set v (divided_magnitudes d (minus x) y true divisor)))
     Nil
@@ -91,7 +100,7 @@ by_divisor d dividend (Some (suc c)) x y v =
     by_dividend d dividend x (Const (magnitude_of (suc c))) (is_negative (suc c)) v
 by_divisor d dividend None x y v =
     zero_test y
-    (Cons (If (Less y (Const (2 ^ 63)))
+    (Cons (If (is_natural y)
     (by_dividend d dividend x y false v)
     (by_dividend d dividend x (minus y) true v))
     Nil)

@@ -29,11 +29,6 @@ abbrev pub IsKnown : Option ℕ → ℕ → Type 0
 IsKnown None x = Unit {0}
 IsKnown (Some c) x = c ≡ x
 
--- the constant is a word, where there is one
-abbrev pub IsWordConstant : Option ℕ → Type 0
-IsWordConstant None = Unit {0}
-IsWordConstant (Some c) = IsWord c
-
 module _ (inputs : List Input) where
   -- an operand of a division has the value x: w has it, and it is the constant that the operand is known to be
   pub record HasValue (constant : Option ℕ) (w : Operand) (x : ℕ) (env : List ℕ) : Type 0 where

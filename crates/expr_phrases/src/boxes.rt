@@ -3,11 +3,11 @@
 ghost use Rattle.std.specs.Prelude.{◌≡◌, IfOk};
 ghost use Rattle.loop_ir.specs.Statements.{Same, Const, Not};
 ghost use Rattle.loop_ir.specs.StatementCopies.{operand_of, test_of};
-ghost use Rattle.expr_phrases.specs.Phrases.{minus, opposite};
+ghost use Rattle.expr_phrases.specs.Phrases.{minus, is_natural, opposite};
 
 use loop_ir::{T, W, WOp};
 use std::alloc::Global;
-use strm_num::NoMemory;
+use strm_num::{NoMemory, SIGN};
 
 /// The word in a box. The one error is `NoMemory`.
 pub fn boxed_word(alloc: Global, w: W) -> Result<Box<W>, NoMemory>
@@ -39,6 +39,14 @@ pub fn minus(alloc: Global, w: Box<W>) -> Result<Box<W>, NoMemory>
 {
     let zero = boxed_word(alloc, W::Const(0))?;
     boxed_word(alloc, W::Bin(WOp::Sub, zero, w))
+}
+
+/// Whether the signed value of the word isn't below 0.
+pub fn is_natural(alloc: Global, w: &W) -> Result<Box<T>, NoMemory>
+    ensures { IfOk result (λ t. test_of t.value ≡ is_natural (operand_of w.now)) }
+{
+    let w = copy(alloc, w)?;
+    boxed_test(alloc, T::Less(Box::into_inner(w), W::Const(SIGN)))
 }
 
 /// The test in a box. The one error is `NoMemory`.

@@ -9,10 +9,10 @@ ghost use Rattle.expr_phrases.specs.Phrases.{minus, set, result_negative, divisi
 ghost use Rattle.expr_phrases.specs.PhraseCopies.{division_of, Appends};
 
 use crate::assignments::assignment;
-use crate::boxes::{boxed_test, boxed_word, copy, minus};
+use crate::boxes::{boxed_test, boxed_word, copy, is_natural, minus};
 use loop_ir::{Stmt, Stmts, T, Verdict, W, WOp};
 use std::alloc::Global;
-use strm_num::{NoMemory, SIGN, Word, is_negative, magnitude};
+use strm_num::{NoMemory, Word, is_negative, magnitude};
 
 /// What a division gives.
 #[derive(Clone, Copy)]
@@ -33,14 +33,6 @@ fn minus_of(alloc: Global, w: &W) -> Result<Box<W>, NoMemory>
     ensures { IfOk result (λ made. operand_of made.value ≡ minus (operand_of w.now)) }
 {
     minus(alloc, copy(alloc, w)?)
-}
-
-/// Whether the signed value of the word isn't below 0.
-fn is_natural(alloc: Global, w: &W) -> Result<Box<T>, NoMemory>
-    ensures { IfOk result (λ t. test_of t.value ≡ Less (operand_of w.now) (Const (2 ^ 63))) }
-{
-    let w = copy(alloc, w)?;
-    boxed_test(alloc, T::Less(Box::into_inner(w), W::Const(SIGN)))
 }
 
 /// Whether the result is negative, where the dividend and the divisor are so.

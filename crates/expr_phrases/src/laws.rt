@@ -9,9 +9,10 @@ ghost use Rattle.loop_ir.specs.Counts.{block_count, block_loops};
 ghost use Rattle.loop_ir.specs.Leaves.{operand_leaves, test_leaves, block_leaves};
 ghost use Rattle.loop_ir.specs.Meaning.{operand_value, test_value};
 ghost use Rattle.loop_ir.specs.Statements.{Operand, Const, Var, Test};
+ghost use Rattle.expr_constants.specs.Constants.{IsWordConstant};
 ghost use Rattle.expr_phrases.specs.Laws.{Laws};
 ghost use Rattle.expr_phrases.specs.Phrases.{Division, minus, opposite, comparison_test, by_divisor};
-ghost use Rattle.expr_phrases.specs.Results.{comparison_truth, result_of, IsWordConstant, HasValue, Assigns};
+ghost use Rattle.expr_phrases.specs.Results.{comparison_truth, result_of, HasValue, Assigns};
 
 use strm_num::{signed_division_divides_magnitudes, signed_order_flips_sign_bits};
 

@@ -1,7 +1,7 @@
 //! The phrases of the C text that expressions are printed as: of words, tests and statements, not
 //! of expressions.
 //!
-//! It depends on list_denotation and loop_ir. `specs/Phrases` says what each phrase is, on plain
+//! It depends on list_denotation, loop_ir and expr_constants. `specs/Phrases` says what each phrase is, on plain
 //! copies, and `specs/Results` what it comes to. The calls make the phrases, in boxes where they
 //! are parts of others; the one error of each is `NoMemory`, where memory is refused. Signed
 //! arithmetic is printed as arithmetic of unsigned words (ISO/IEC 9899:2011, 6.2.5 and 6.5), and
@@ -17,7 +17,6 @@ mod comparison;
 mod connectives;
 mod division;
 mod laws;
-mod simple;
 
 pub use assignments::{assignment, set_truth};
 pub use boxes::{boxed_test, boxed_word, is_not_zero, minus, opposite};
@@ -27,4 +26,3 @@ pub use division::{Division, Side, by_divisor};
 pub use laws::{
     comparisons_tell_the_signed_order, divisions_assign_signed_results, opposites_negate,
 };
-pub use simple::{constant, is_division, is_leaf, is_simple};

@@ -2,6 +2,8 @@ use Rattle.expr_lower.proofs.laws.laws_below.Goals as goal
 
 pub returns : goal.returns
 returns c = record {
+  constant_value = c.constants_are_values.ensures.value;
+  constant_word = c.constants_are_values.ensures.words;
   minus_value = c.opposites_negate.ensures.words;
   opposite_value = c.opposites_negate.ensures.tests;
   opposite_leaves = c.opposites_negate.ensures.leaves;

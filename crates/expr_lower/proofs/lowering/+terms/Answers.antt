@@ -7,8 +7,8 @@ use Rattle.expr_lower.specs.FormCopies.{form_of}
 use Rattle.expr_lower.proofs.AppendedForms.{minus_step, right_temps, operation_step, operation_step-form}
 use Rattle.expr_lower.proofs.lowering.+terms.Goals as goal
 
-pub lower_form-returns-in_ok-form-in-Neg-clause-block : goal.lower_form-returns-in_ok-form-in-Neg-clause-block
-lower_form-returns-in_ok-form-in-Neg-clause-block t c =
+pub lower_parts-returns-in_ok-form-in-Neg-clause-block : goal.lower_parts-returns-in_ok-form-in-Neg-clause-block
+lower_parts-returns-in_ok-form-in-Neg-clause-block t c =
     let a = term_of c.deref.result.now in
     let shape : term_of c.args.e.now ≡ term.Neg a = ap term_of c.in-Neg.is ∙ ap (λ x. term.Neg (term_of x)) (sym c.deref.ensures) in
     let before = c.in_ok-form-in-Neg.ensures in
