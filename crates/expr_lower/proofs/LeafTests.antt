@@ -4,6 +4,7 @@ use Rattle.std.proofs.Common.{◌≡◌, ℕ, zero, suc, ◌+◌, ◌<◌, ◌�
 use Rattle.std.specs.Prelude.{IsTrue, if◌then◌else◌, is_some, slice_index}
 use Rattle.strm_num.proofs.Truths.{true_both}
 use Rattle.strm_num.specs.Words.{IsWord, truth_of}
+use Rattle.strm_num.specs.Magnitudes.{magnitude_of}
 use Rattle.list_denotation.specs.declared.expr.BinOp.{BinOp}
 use Rattle.list_denotation.specs.declared.expr.BinOp.TheVariants as sign
 use Rattle.list_denotation.specs.Terms.{Term, Lit, Truth, Var, Param, Len, Neg, Not, Bin, And, Or, If}
@@ -13,14 +14,17 @@ use Rattle.loop_ir.specs.declared.syntax.WOp.TheVariants as op
 use Rattle.loop_ir.specs.Leaves.{operand_leaves, test_leaves, block_leaves}
 use Rattle.loop_ir.specs.Statements as s
 use Rattle.loop_ir.specs.Statements.{Operand, Test, Same, Block, Nil, Cons, join}
-use Rattle.expr_phrases.specs.Phrases.{Division, Quotient, Remainder, set, minus, set_truth, by_divisor, Connective, Conjunction, Disjunction, connected_test, connected_block}
-use Rattle.expr_constants.specs.Constants.{constant_of, IsWordConstant}
+use Rattle.expr_phrases.specs.Results.{is_equality}
+use Rattle.expr_phrases.specs.Phrases.{Division, Quotient, Remainder, set, minus, set_truth, by_divisor, Connective, Conjunction, Disjunction, connected_test, connected_block, divides_modulus, magnitude_block}
+use Rattle.expr_constants.specs.Constants.{by_constant, constant_of, IsWordConstant}
 use Rattle.expr_constants.specs.Simple.{is_simple}
-use Rattle.expr_lower.specs.Lowering.{Form, AWord, ATest, InTarget, Lowered, Condition, condition_of, is_word, operand_rest, operand_block, operand_in, condition_in, target_rest, into, as_word, in_target, lowered_minus, lowered_not, lowered_arithmetic, lowered_comparison, division_operand_block, division_operand_in, lowered_division, lowered_operation, is_empty, connective_rest, lowered_connective, lowered_connected, lowered_choice, lowered_chosen, folded, lowered_parts, lowered_term, lowered_into}
-use Rattle.expr_lower.specs.Costs.{is_arithmetic, chosen_plain, has_plain_parts, is_plain, is_direct, unless_constant, connected_temps, chosen_temps, parts_temps, temps_of}
+use Rattle.expr_lower.specs.Lowering.{Form, AWord, ATest, InTarget, Lowered, Condition, condition_of, is_word, operand_rest, operand_block, operand_in, condition_in, target_rest, into, as_word, in_target, lowered_minus, lowered_not, lowered_arithmetic, lowered_comparison, division_operand_block, division_operand_in, lowered_division, lowered_operation, lowered_multiple, is_empty, connective_rest, lowered_connective, lowered_connected, lowered_choice, lowered_chosen, folded, lowered_parts, lowered_dividend, lowered_term, lowered_into}
+use Rattle.expr_lower.specs.Costs.{is_arithmetic, chosen_plain, has_plain_parts, is_plain, is_direct, unless_constant, binary_temps, connected_temps, chosen_temps, operation_temps, parts_temps, dividend_temps, temps_of}
+use Rattle.expr_lower.specs.Multiples.{dividend_of, multiple_divisor}
 use Rattle.expr_lower.specs.Laws.{Laws}
 use Rattle.expr_lower.specs.Scopes.{EachLeaf, IsWordLeaf}
 use Rattle.expr_lower.proofs.Leaves.{leaves_word}
+use Rattle.expr_lower.proofs.MultipleTests.{multiple_is, divisor_word, equality_not_arithmetic}
 use Rattle.expr_lower.proofs.Plain.{plain_form, operands_form, simple_plain}
 
 -- both tests fail together where one does
@@ -261,6 +265,25 @@ module _ (laws : Laws) (passes : Operand → Bool) (constants : (c : ℕ) → Is
   operation_in sign.Gt x y a b v t has_x has_y h k at word temp = comparison_form_in sign.Gt a b v t h k (at refl) word
   operation_in sign.Ge x y a b v t has_x has_y h k at word temp = comparison_form_in sign.Ge a b v t h k (at refl) word
 
+  multiple_in : (o : BinOp) (x : Term) (c : ℕ) (l : Lowered) (v : ℕ) → IsWord c → InLowered l → InVariable v → InLowered (lowered_multiple o x c l v)
+  multiple_in o x c l v word h at = record {
+    block = by_block (divides_modulus (magnitude_of c));
+    form = laws.multiple_leaves passes o (if divides_modulus (magnitude_of c) then operand_in l.form v else s.Var v) c constants word (by_operand (divides_modulus (magnitude_of c)));
+  }
+    where
+      side : InOperand (division_operand_in x l.form v)
+      side = division_operand_in_in (is_simple x) l.form v h.form (λ none. at) (λ none. at)
+
+      by_block : (b : Bool) → InBlock (if b then operand_block l v else join (division_operand_block x l v) (magnitude_block (division_operand_in x l.form v) v))
+      by_block true = operand_block_in l v h (λ none. at)
+      by_block false =
+          joins (division_operand_block x l v) (magnitude_block (division_operand_in x l.form v) v) (division_operand_block_in (is_simple x) l v h (λ none. at))
+          (laws.magnitude_leaves passes (division_operand_in x l.form v) v constants at side)
+
+      by_operand : (b : Bool) → InOperand (if b then operand_in l.form v else s.Var v)
+      by_operand true = operand_in_in l.form v h.form (λ none. at)
+      by_operand false = at
+
   -- ---- expressions
 
   -- of the target and so many temporaries, unless the expression is plain and uses none of them
@@ -272,18 +295,18 @@ module _ (laws : Laws) (passes : Operand → Bool) (constants : (c : ℕ) → Is
   room : (plain : Bool) (m v t n : ℕ) → InVariable v → ((x : ℕ) → t ≤ x → x < t + n → InVariable x) → m ≤ n → HasRoom plain m v t
   room plain m v t n at temps le = record { target = λ none. at; temps = λ none x low high. temps x low (omega arith) }
 
-  left_room : (o : BinOp) (a b : Term) (v t : ℕ) → HasRoom (has_plain_parts (Bin o a b)) (parts_temps (Bin o a b)) v t → HasRoom (is_plain a) (temps_of a) v t
+  left_room : (o : BinOp) (a b : Term) (v t : ℕ) → HasRoom (has_plain_parts (Bin o a b)) (operation_temps o a b) v t → HasRoom (is_plain a) (temps_of a) v t
   left_room o a b v t r = record {
     target = λ none. r.target (left_not_plain o a b none);
     temps = λ none x low high. r.temps (left_not_plain o a b none) x low (omega arith);
   }
 
   -- the first temporary is that of a right operand that is kept
-  first_temp : (o : BinOp) (a b : Term) (v t : ℕ) → HasRoom (has_plain_parts (Bin o a b)) (parts_temps (Bin o a b)) v t → is_direct o b ≡ false → InVariable t
+  first_temp : (o : BinOp) (a b : Term) (v t : ℕ) → HasRoom (has_plain_parts (Bin o a b)) (operation_temps o a b) v t → is_direct o b ≡ false → InVariable t
   first_temp o a b v t r kept =
       r.temps (kept_not_plain o a b kept) t (omega arith) (omega (arith, kept_temps (is_direct o b) (temps_of b) kept))
 
-  right_room : (o : BinOp) (a b : Term) (v t : ℕ) → HasRoom (has_plain_parts (Bin o a b)) (parts_temps (Bin o a b)) v t → HasRoom (is_plain b) (temps_of b) t (t + 1)
+  right_room : (o : BinOp) (a b : Term) (v t : ℕ) → HasRoom (has_plain_parts (Bin o a b)) (operation_temps o a b) v t → HasRoom (is_plain b) (temps_of b) t (t + 1)
   right_room o a b v t r = record {
     target = λ none. first_temp o a b v t r (kept_operand o b none);
     temps = λ none x low high. r.temps (right_not_plain o a b none) x (omega arith) (omega (arith, kept_temps (is_direct o b) (temps_of b) (kept_operand o b none)));
@@ -310,6 +333,31 @@ module _ (laws : Laws) (passes : Operand → Bool) (constants : (c : ℕ) → Is
       (into_in a v (j (room first m v t all (r.target refl) (r.temps refl) (omega arith))) (r.target refl))
       (into_in b v (k (room second n v t all (r.target refl) (r.temps refl) (omega arith))) (r.target refl))
 
+  -- a comparison of a remainder with 0 is no word, and has room for its dividend
+  abbrev DividendIn : List ℕ → Term → ℕ → ℕ → Type 0
+  DividendIn rows a v t = InVariable v → ((x : ℕ) → t ≤ x → x < t + dividend_temps a → InVariable x) → InLowered (lowered_dividend rows a v t)
+
+  binary_in : (rows : List ℕ) (o : BinOp) (a b : Term) (v t : ℕ) → EachLeaf IsWordLeaf (Bin o a b) → HasRoom (has_plain_parts (Bin o a b)) (parts_temps (Bin o a b)) v t → DividendIn rows a v t → DividendIn rows b v t → (HasRoom (is_plain a) (temps_of a) v t → InLowered (lowered_term rows a v t)) → (HasRoom (is_plain b) (temps_of b) t (t + 1) → InLowered (lowered_term rows b t (t + 1))) → InLowered (lowered_parts rows (Bin o a b) v t)
+  binary_in rows o a b v t has r left right first second = by_left (multiple_divisor o a b) (multiple_divisor o b a) refl refl r
+    where
+      no_plain : IsTrue (is_equality o) → has_plain_parts (Bin o a b) ≡ false
+      no_plain equality = not_first (is_arithmetic o) (is_plain a && is_plain b) (equality_not_arithmetic o equality)
+
+      by_left : (j k : Option ℕ) → multiple_divisor o a b ≡ j → multiple_divisor o b a ≡ k → HasRoom (has_plain_parts (Bin o a b)) (binary_temps j k (dividend_temps a) (dividend_temps b) (operation_temps o a b)) v t → InLowered (by_constant j (λ c. lowered_multiple o (dividend_of a) c (lowered_dividend rows a v t) v) (by_constant k (λ c. lowered_multiple o (dividend_of b) c (lowered_dividend rows b v t) v) (lowered_operation o a b (lowered_term rows a v t) (lowered_term rows b t (t + 1)) v t)))
+      by_left (Some c) k is other r =
+          let h = multiple_is o a b c is in
+          let none = no_plain h.equality in
+          multiple_in o (dividend_of a) c (lowered_dividend rows a v t) v (divisor_word laws a c has.0 h.divisor) (left (r.target none) (r.temps none)) (r.target none)
+      by_left None (Some c) is other r =
+          let h = multiple_is o b a c other in
+          let none = no_plain h.equality in
+          multiple_in o (dividend_of b) c (lowered_dividend rows b v t) v (divisor_word laws b c has.1 h.divisor) (right (r.target none) (r.temps none)) (r.target none)
+      by_left None None is other r =
+          operation_in o a b (lowered_term rows a v t) (lowered_term rows b t (t + 1)) v t has.0 has.1 (first (left_room o a b v t r)) (second (right_room o a b v t r))
+          (λ none. r.target (sym (operands_form rows o a b v t) ∙ none))
+          (λ none. first_temp o a b v t r (kept_operand o b (sym (plain_form rows b t (t + 1)) ∙ none)))
+          (first_temp o a b v t r)
+
   module _ (rows : List ℕ) where
     -- of each leaf, as the word that it is
     abbrev pub InLeaf : Term → Type 0
@@ -323,38 +371,39 @@ module _ (laws : Laws) (passes : Operand → Bool) (constants : (c : ℕ) → Is
         by_constant_of (Some c) word r = record { block = refl; form = constants c word }
         by_constant_of None word r = parts r
 
-    parts_in : (e : Term) (v t : ℕ) → EachLeaf IsWordLeaf e → EachLeaf InLeaf e → HasRoom (has_plain_parts e) (parts_temps e) v t → InLowered (lowered_parts rows e v t)
-    parts_in (Lit c) v t has m r = record { block = refl; form = m }
-    parts_in (Truth b) v t has m r = record { block = refl; form = m }
-    parts_in (Var k) v t has m r = record { block = refl; form = m }
-    parts_in (Param k) v t has m r = record { block = refl; form = m }
-    parts_in (Len k) v t has m r = record { block = refl; form = m }
-    parts_in (Neg a) v t has m r =
-        minus_form_in (lowered_term rows a v t) v (folded_in a v t has (parts_in a v t has m) (record { target = r.target; temps = r.temps }))
-        (λ none. r.target (sym (plain_form rows a v t) ∙ none))
-    parts_in (Not a) v t has m r =
-        let part = room (is_plain a) (temps_of a) v t (temps_of a) (r.target refl) (r.temps refl) (omega arith) in
-        not_form_in (condition_of (lowered_term rows a v t) v) (condition_of_in (lowered_term rows a v t) v (folded_in a v t has (parts_in a v t has m) part) (r.target refl))
-    parts_in (Bin o a b) v t has m r =
-        let first = lowered_term rows a v t in
-        let second = lowered_term rows b t (t + 1) in
-        operation_in o a b first second v t has.0 has.1
-        (folded_in a v t has.0 (parts_in a v t has.0 m.0) (left_room o a b v t r)) (folded_in b t (t + 1) has.1 (parts_in b t (t + 1) has.1 m.1) (right_room o a b v t r))
-        (λ none. r.target (sym (operands_form rows o a b v t) ∙ none))
-        (λ none. first_temp o a b v t r (kept_operand o b (sym (plain_form rows b t (t + 1)) ∙ none)))
-        (first_temp o a b v t r)
-    parts_in (And a b) v t has m r =
-        connected_in Conjunction (constant_of a) (lowered_term rows a v t) (lowered_term rows b v t) (temps_of a) (temps_of b) v t (is_plain a) r
-        (folded_in a v t has.0 (parts_in a v t has.0 m.0))
-        (folded_in b v t has.1 (parts_in b v t has.1 m.1) (second_room (constant_of a) (is_plain b) (temps_of a) (temps_of b) v t r))
-    parts_in (Or a b) v t has m r =
-        connected_in Disjunction (constant_of a) (lowered_term rows a v t) (lowered_term rows b v t) (temps_of a) (temps_of b) v t (is_plain a) r
-        (folded_in a v t has.0 (parts_in a v t has.0 m.0))
-        (folded_in b v t has.1 (parts_in b v t has.1 m.1) (second_room (constant_of a) (is_plain b) (temps_of a) (temps_of b) v t r))
-    parts_in (If c a b) v t has m r =
-        chosen_in (constant_of c) (lowered_term rows c v t) (lowered_term rows a v t) (lowered_term rows b v t) (is_plain c) (is_plain a) (is_plain b)
-        (temps_of c) (temps_of a) (temps_of b) v t r
-        (folded_in c v t has.0 (parts_in c v t has.0 m.0)) (folded_in a v t has.1.0 (parts_in a v t has.1.0 m.1.0)) (folded_in b v t has.1.1 (parts_in b v t has.1.1 m.1.1))
+    mutual
+      parts_in : (e : Term) (v t : ℕ) → EachLeaf IsWordLeaf e → EachLeaf InLeaf e → HasRoom (has_plain_parts e) (parts_temps e) v t → InLowered (lowered_parts rows e v t)
+      parts_in (Lit c) v t has m r = record { block = refl; form = m }
+      parts_in (Truth b) v t has m r = record { block = refl; form = m }
+      parts_in (Var k) v t has m r = record { block = refl; form = m }
+      parts_in (Param k) v t has m r = record { block = refl; form = m }
+      parts_in (Len k) v t has m r = record { block = refl; form = m }
+      parts_in (Neg a) v t has m r =
+          minus_form_in (lowered_term rows a v t) v (folded_in a v t has (parts_in a v t has m) (record { target = r.target; temps = r.temps }))
+          (λ none. r.target (sym (plain_form rows a v t) ∙ none))
+      parts_in (Not a) v t has m r =
+          let part = room (is_plain a) (temps_of a) v t (temps_of a) (r.target refl) (r.temps refl) (omega arith) in
+          not_form_in (condition_of (lowered_term rows a v t) v) (condition_of_in (lowered_term rows a v t) v (folded_in a v t has (parts_in a v t has m) part) (r.target refl))
+      parts_in (Bin o a b) v t has m r =
+          binary_in rows o a b v t has r (λ at temps. dividend_in a v t has.0 m.0 at temps) (λ at temps. dividend_in b v t has.1 m.1 at temps)
+          (λ part. folded_in a v t has.0 (parts_in a v t has.0 m.0) part) (λ part. folded_in b t (t + 1) has.1 (parts_in b t (t + 1) has.1 m.1) part)
+      parts_in (And a b) v t has m r =
+          connected_in Conjunction (constant_of a) (lowered_term rows a v t) (lowered_term rows b v t) (temps_of a) (temps_of b) v t (is_plain a) r
+          (folded_in a v t has.0 (parts_in a v t has.0 m.0))
+          (folded_in b v t has.1 (parts_in b v t has.1 m.1) (second_room (constant_of a) (is_plain b) (temps_of a) (temps_of b) v t r))
+      parts_in (Or a b) v t has m r =
+          connected_in Disjunction (constant_of a) (lowered_term rows a v t) (lowered_term rows b v t) (temps_of a) (temps_of b) v t (is_plain a) r
+          (folded_in a v t has.0 (parts_in a v t has.0 m.0))
+          (folded_in b v t has.1 (parts_in b v t has.1 m.1) (second_room (constant_of a) (is_plain b) (temps_of a) (temps_of b) v t r))
+      parts_in (If c a b) v t has m r =
+          chosen_in (constant_of c) (lowered_term rows c v t) (lowered_term rows a v t) (lowered_term rows b v t) (is_plain c) (is_plain a) (is_plain b)
+          (temps_of c) (temps_of a) (temps_of b) v t r
+          (folded_in c v t has.0 (parts_in c v t has.0 m.0)) (folded_in a v t has.1.0 (parts_in a v t has.1.0 m.1.0)) (folded_in b v t has.1.1 (parts_in b v t has.1.1 m.1.1))
+
+      dividend_in : (a : Term) (v t : ℕ) → EachLeaf IsWordLeaf a → EachLeaf InLeaf a → InVariable v → ((x : ℕ) → t ≤ x → x < t + dividend_temps a → InVariable x) → InLowered (lowered_dividend rows a v t)
+      dividend_in (Bin o x y) v t has m at temps =
+          folded_in x v t has.0 (parts_in x v t has.0 m.0) (room (is_plain x) (temps_of x) v t (temps_of x) at temps (omega arith))
+      dividend_in _ v t has m at temps = record { block = refl; form = zero_in }
 
     module _ (e : Term) (v t top : ℕ) (at : InVariable v) (temps : (x : ℕ) → t ≤ x → x < top → InVariable x) (le : t + temps_of e ≤ top) (has : EachLeaf IsWordLeaf e) (leaves : EachLeaf InLeaf e) where
       lowered_in : InLowered (lowered_term rows e v t)

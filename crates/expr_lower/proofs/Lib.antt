@@ -3,6 +3,7 @@ pub mod ValueTable
 pub mod Leaves
 pub mod Disjointness
 pub mod Effects
+pub mod MultipleTests
 pub mod Plain
 pub mod PlainValues
 pub mod ValueUses

@@ -1,8 +1,9 @@
 -- The statements of an expression come to its value, by one induction over the expression.
-use Rattle.std.proofs.Common.{◌≡◌, inl, ℕ, zero, suc, ◌+◌, ◌-◌, ◌<◌, ◌≤◌, ◌^◌, Bool, true, false, ◌&&◌, ◌||◌, List, [], length, max, Option, Some, None, refl, sym, ap, ◌∙◌, subst, arith}
+use Rattle.std.proofs.Common.{◌≡◌, ◌≢◌, inl, ℕ, zero, suc, ◌+◌, ◌-◌, ◌<◌, ◌≤◌, ◌^◌, Bool, true, false, ◌&&◌, ◌||◌, List, [], length, max, Option, Some, None, refl, sym, ap, ◌∙◌, subst, arith}
 use Rattle.std.specs.Prelude.{IsTrue, is_some, if◌then◌else◌, not}
 use Rattle.std.proofs.Math.Nat.{mod-lt}
-use Rattle.strm_num.specs.Words.{negation_of, truth_of}
+use Rattle.strm_num.specs.Words.{IsWord, negation_of, remainder_of, truth_of}
+use Rattle.strm_num.specs.Magnitudes.{magnitude_of}
 use Rattle.list_denotation.specs.declared.expr.BinOp.{BinOp}
 use Rattle.list_denotation.specs.declared.expr.BinOp.TheVariants as sign
 use Rattle.list_denotation.specs.declared.input.Input.{Input}
@@ -13,18 +14,20 @@ use Rattle.loop_ir.specs.declared.syntax.WOp.{WOp}
 use Rattle.loop_ir.specs.Statements.{Operand, Const, Var, Bin, Test, If, Block, Nil, Cons, join}
 use Rattle.loop_ir.proofs.Copies.{join-nil}
 use Rattle.loop_ir.specs.Meaning.{Runs, operand_value, test_value, run}
-use Rattle.expr_phrases.specs.Results.{comparison_truth, result_of}
+use Rattle.expr_phrases.specs.Results.{comparison_truth, is_equality, result_of}
 use Rattle.expr_lower.specs.Contract.{is_true, Kept, GoesOn, ComesTo, IsIn}
-use Rattle.expr_phrases.specs.Phrases.{Division, Quotient, Remainder, set, minus, set_truth, opposite, comparison_test, by_divisor, Connective, Conjunction, Disjunction, connected_test, connected_block}
-use Rattle.expr_constants.specs.Constants.{conjunction_constant, disjunction_constant, constant_of}
+use Rattle.expr_phrases.specs.Phrases.{Division, Quotient, Remainder, set, minus, set_truth, opposite, comparison_test, by_divisor, Connective, Conjunction, Disjunction, connected_test, connected_block, divides_modulus, magnitude_block, multiple_test}
+use Rattle.expr_constants.specs.Constants.{by_constant, conjunction_constant, disjunction_constant, constant_of}
 use Rattle.expr_constants.specs.Simple.{is_simple}
-use Rattle.expr_lower.specs.Lowering.{Lowered, Form, AWord, ATest, InTarget, is_word, as_word, in_target, operand_block, operand_in, condition_in, into, division_operand_block, division_operand_in, lowered_minus, lowered_arithmetic, lowered_comparison, lowered_division, lowered_operation, is_empty, connective_form, lowered_connective, lowered_connected, lowered_choice, lowered_chosen, folded, lowered_parts, lowered_term, lowered_test}
-use Rattle.expr_lower.specs.Costs.{has_plain_parts, is_plain, is_direct, unless_constant, connected_temps, chosen_temps, parts_temps, temps_of}
+use Rattle.expr_lower.specs.Lowering.{Lowered, Form, AWord, ATest, InTarget, is_word, as_word, in_target, operand_block, operand_in, condition_in, into, division_operand_block, division_operand_in, lowered_minus, lowered_arithmetic, lowered_comparison, lowered_division, lowered_operation, lowered_multiple, is_empty, connective_form, lowered_connective, lowered_connected, lowered_choice, lowered_chosen, folded, lowered_parts, lowered_dividend, lowered_term, lowered_test}
+use Rattle.expr_lower.specs.Costs.{has_plain_parts, is_plain, is_direct, unless_constant, binary_temps, connected_temps, chosen_temps, operation_temps, parts_temps, dividend_temps, temps_of}
+use Rattle.expr_lower.specs.Multiples.{divisor_of, dividend_of, multiple_divisor}
 use Rattle.expr_lower.specs.Laws.{Laws}
 use Rattle.expr_lower.specs.PlainWords.{arithmetic_operator}
-use Rattle.expr_lower.specs.Scopes.{EachLeaf, IsWordLeaf, WordsInPlace}
-use Rattle.expr_lower.proofs.Disjointness.{IsDisjoint, disjoint_right}
+use Rattle.expr_lower.specs.Scopes.{EachLeaf, IsWordLeaf, IsLeafInPlace, WordsInPlace}
+use Rattle.expr_lower.proofs.Disjointness.{IsDisjointLeaf, IsDisjoint, disjoint_right}
 use Rattle.expr_lower.proofs.Effects.{then_comes, maps, holds_too, nothing_comes, assigns_comes, set_comes, first_comes, second_comes, set_truth_comes}
+use Rattle.expr_lower.proofs.MultipleTests.{multiple_is, divisor_not_zero, divisor_word, dividend_leaves, dividend_room, dividend_lowered, multiple_value, left_multiple, right_multiple}
 use Rattle.expr_lower.proofs.Plain.{plain_form, parts_plain}
 use Rattle.expr_lower.proofs.PlainValues.{arithmetic_value, arithmetic_word, truth_word, word_unless_zero, chosen_value}
 use Rattle.expr_lower.proofs.ValueUses.{HasTruth, IsFound, IsOperand, IsCondition, still_in_place, operand_comes, condition_comes, target_comes}
@@ -64,11 +67,11 @@ module _ (laws : Laws) (rows words : List ℕ) (inputs : List Input) where
       let same : temps_of e ≡ parts_temps e = ap (λ k. unless_constant k (parts_temps e)) none in
       omega (arith, h, same)
 
-  left_ready : (o : BinOp) (a b : Term) (v t top : ℕ) (env : List ℕ) → constant_of (term.Bin o a b) ≡ None → Ready rows words inputs (term.Bin o a b) v t top env → Ready rows words inputs a v t top env
-  left_ready o a b v t top env none ready = record {
+  left_ready : (o : BinOp) (a b : Term) (v t top : ℕ) (env : List ℕ) → t + operation_temps o a b ≤ top → Ready rows words inputs (term.Bin o a b) v t top env → Ready rows words inputs a v t top env
+  left_ready o a b v t top env room ready = record {
     has = ready.has.0;
     outside = ready.outside;
-    room = left_room (temps_of a) (if is_direct o b then 0 else temps_of b + 1) (parts_room (term.Bin o a b) t top none ready.room);
+    room = left_room (temps_of a) (if is_direct o b then 0 else temps_of b + 1) room;
     inside = ready.inside;
     within = ready.within;
     apart = ready.apart.0;
@@ -78,14 +81,14 @@ module _ (laws : Laws) (rows words : List ℕ) (inputs : List Input) where
       left_room : (m n : ℕ) → t + max m n ≤ top → t + m ≤ top
       left_room m n h = omega (arith, h)
 
-  right_room : (o : BinOp) (a b : Term) (t top : ℕ) → is_direct o b ≡ false → t + parts_temps (term.Bin o a b) ≤ top → (t + 1) + temps_of b ≤ top
+  right_room : (o : BinOp) (a b : Term) (t top : ℕ) → is_direct o b ≡ false → t + operation_temps o a b ≤ top → (t + 1) + temps_of b ≤ top
   right_room o a b t top kept h =
-      let same : parts_temps (term.Bin o a b) ≡ max (temps_of a) (temps_of b + 1) = ap (λ d. max (temps_of a) (if d then 0 else temps_of b + 1)) kept in
+      let same : operation_temps o a b ≡ max (temps_of a) (temps_of b + 1) = ap (λ d. max (temps_of a) (if d then 0 else temps_of b + 1)) kept in
       omega (arith, h, same)
 
-  right_ready : (o : BinOp) (a b : Term) (v t top : ℕ) (env : List ℕ) → constant_of (term.Bin o a b) ≡ None → is_direct o b ≡ false → Ready rows words inputs (term.Bin o a b) v t top env → (t < top) × Ready rows words inputs b t (t + 1) top env
-  right_ready o a b v t top env none kept ready =
-      let room = right_room o a b t top kept (parts_room (term.Bin o a b) t top none ready.room) in
+  right_ready : (o : BinOp) (a b : Term) (v t top : ℕ) (env : List ℕ) → t + operation_temps o a b ≤ top → is_direct o b ≡ false → Ready rows words inputs (term.Bin o a b) v t top env → (t < top) × Ready rows words inputs b t (t + 1) top env
+  right_ready o a b v t top env enough kept ready =
+      let room = right_room o a b t top kept enough in
       let below : t < top = omega (arith, room) in (
         below,
         record {
@@ -162,7 +165,7 @@ module _ (laws : Laws) (rows words : List ℕ) (inputs : List Input) where
   abbrev LowersRight : Term → ℕ → ℕ → Type 0
   LowersRight b t top = (env : List ℕ) → Ready rows words inputs b t (t + 1) top env → IsLowered rows words inputs b t (t + 1) top env
 
-  module _ (o : BinOp) (a b : Term) (v t top : ℕ) (env : List ℕ) (none : constant_of (term.Bin o a b) ≡ None) (ready : Ready rows words inputs (term.Bin o a b) v t top env) (left : IsLowered rows words inputs a v t top env) (lower : LowersRight b t top) where
+  module _ (o : BinOp) (a b : Term) (v t top : ℕ) (env : List ℕ) (room : t + operation_temps o a b ≤ top) (ready : Ready rows words inputs (term.Bin o a b) v t top env) (left : IsLowered rows words inputs a v t top env) (lower : LowersRight b t top) where
     abbrev first : Lowered
     first = lowered_term rows a v t
 
@@ -172,14 +175,14 @@ module _ (laws : Laws) (rows words : List ℕ) (inputs : List Input) where
     -- what is there for the right operand where it isn't direct
     kept_right_ready : (env' : List ℕ) → Kept v t top env env' → is_direct o b ≡ false → (t < top) × Ready rows words inputs b t (t + 1) top env' × IsLowered rows words inputs b t (t + 1) top env'
     kept_right_ready env' kept indirect =
-        let r = right_ready o a b v t top env' none indirect (still_ready rows words inputs (term.Bin o a b) v t top env env' kept ready) in
+        let r = right_ready o a b v t top env' room indirect (still_ready rows words inputs (term.Bin o a b) v t top env env' kept ready) in
         (r.0, r.1, lower env' r.1)
 
     both_come : (rest : Block) (Q : ℕ → List ℕ → Type 0) (f : ℕ → ℕ → Got ℕ) → is_direct o b ≡ is_plain b → ((x y : ℕ) (env' : List ℕ) → Kept v t top env env' → BothAre rows words inputs a b (operand_in first.form v) (operand_in second.form t) x y env' → ComesTo inputs rest env' v t top Q (f x y)) → ComesTo inputs (join (operand_block first v) (join (operand_block second t) rest)) env v t top Q (with_value (value a words inputs) (λ x. with_value (value b words inputs) (λ y. f x y)))
     both_come rest Q f direct more =
         operands_come rows words inputs a b (operand_block first v) (operand_block second t) rest (operand_in first.form v) (operand_in second.form t) v t top env Q f
         ready.apart.0 ready.apart.1 ready.in_place.0 ready.in_place.1
-        (left_comes rows words inputs laws a v t top env (left_ready o a b v t top env none ready) left)
+        (left_comes rows words inputs laws a v t top env (left_ready o a b v t top env room ready) left)
         (λ env' kept. right_comes rows words inputs laws b v t top env' (is_plain b) refl ready.outside ready.has.1
         (still_in_place rows words inputs b v t top env env' ready.apart.1 kept ready.in_place.1)
         (λ e. kept_right_ready env' kept (direct ∙ e)))
@@ -197,18 +200,19 @@ module _ (laws : Laws) (rows words : List ℕ) (inputs : List Input) where
         (set_comes inputs env' v t top (Bin (arithmetic_operator o) (operand_in first.form v) (operand_in second.form t)) (arithmetic_value o x y) (inside_still env' kept) (arithmetic_word o x y)
         (arithmetic_is inputs o (operand_in first.form v) (operand_in second.form t) x y env' both.left.is both.right.is)))
 
-    lowered_as : (m : Lowered) → lowered_operation o a b first second v t ≡ m → ComesTo inputs m.block env v t top (IsFound rows words inputs (term.Bin o a b) m.form v) (value (term.Bin o a b) words inputs) → IsLoweredTo rows words inputs (term.Bin o a b) (lowered_parts rows (term.Bin o a b) v t) v t top env
+    lowered_as : (m : Lowered) → lowered_operation o a b first second v t ≡ m → ComesTo inputs m.block env v t top (IsFound rows words inputs (term.Bin o a b) m.form v) (value (term.Bin o a b) words inputs) → IsLoweredTo rows words inputs (term.Bin o a b) (lowered_operation o a b first second v t) v t top env
     lowered_as m is h = subst (λ l. ComesTo inputs l.block env v t top (IsFound rows words inputs (term.Bin o a b) l.form v) (value (term.Bin o a b) words inputs)) (sym is) h
 
-    pub arithmetic_comes : (plain : Bool) → (is_plain a && is_plain b) ≡ plain → lowered_operation o a b first second v t ≡ lowered_arithmetic (arithmetic_operator o) first second v t → has_plain_parts (term.Bin o a b) ≡ (is_plain a && is_plain b) → is_direct o b ≡ is_plain b → ((x y : ℕ) → operation_of o x y ≡ Is (arithmetic_value o x y)) → IsLoweredTo rows words inputs (term.Bin o a b) (lowered_parts rows (term.Bin o a b) v t) v t top env
-    arithmetic_comes true is whole shape direct value_is = plain_parts_comes (term.Bin o a b) v t top env none (shape ∙ is) ready
-    arithmetic_comes false is whole shape direct value_is =
+    pub arithmetic_comes : constant_of (term.Bin o a b) ≡ None → lowered_parts rows (term.Bin o a b) v t ≡ lowered_operation o a b first second v t → (plain : Bool) → (is_plain a && is_plain b) ≡ plain → lowered_operation o a b first second v t ≡ lowered_arithmetic (arithmetic_operator o) first second v t → has_plain_parts (term.Bin o a b) ≡ (is_plain a && is_plain b) → is_direct o b ≡ is_plain b → ((x y : ℕ) → operation_of o x y ≡ Is (arithmetic_value o x y)) → IsLoweredTo rows words inputs (term.Bin o a b) (lowered_operation o a b first second v t) v t top env
+    arithmetic_comes none binary true is whole shape direct value_is =
+        subst (λ l. IsLoweredTo rows words inputs (term.Bin o a b) l v t top env) binary (plain_parts_comes (term.Bin o a b) v t top env none (shape ∙ is) ready)
+    arithmetic_comes none binary false is whole shape direct value_is =
         lowered_as (in_target (join (operand_block first v) (join (operand_block second t) (set v (Bin (arithmetic_operator o) (operand_in first.form v) (operand_in second.form t))))))
         (whole ∙ as_arithmetic (arithmetic_operator o) first second v t (both_words a b v t ∙ is))
         (arithmetic_set direct value_is)
 
     -- comparisons
-    pub comparison_comes : lowered_operation o a b first second v t ≡ lowered_comparison o first second v t → is_direct o b ≡ is_plain b → ((x y : ℕ) → operation_of o x y ≡ Is (truth_of (comparison_truth o x y))) → IsLoweredTo rows words inputs (term.Bin o a b) (lowered_parts rows (term.Bin o a b) v t) v t top env
+    pub comparison_comes : lowered_operation o a b first second v t ≡ lowered_comparison o first second v t → is_direct o b ≡ is_plain b → ((x y : ℕ) → operation_of o x y ≡ Is (truth_of (comparison_truth o x y))) → IsLoweredTo rows words inputs (term.Bin o a b) (lowered_operation o a b first second v t) v t top env
     comparison_comes whole direct value_is =
         let c : Test = comparison_test o (operand_in first.form v) (operand_in second.form t) in
         let Q : ℕ → List ℕ → Type 0 = λ x env'. HasTruth rows words inputs c env' x in
@@ -225,12 +229,12 @@ module _ (laws : Laws) (rows words : List ℕ) (inputs : List Input) where
         })))))
 
     -- division
-    pub division_comes : (d : Division) → lowered_operation o a b first second v t ≡ lowered_division d a b first second v t → is_direct o b ≡ is_simple b → ((x y : ℕ) → operation_of o x y ≡ unless_zero Trap y (result_of d x y)) → IsLoweredTo rows words inputs (term.Bin o a b) (lowered_parts rows (term.Bin o a b) v t) v t top env
+    pub division_comes : (d : Division) → lowered_operation o a b first second v t ≡ lowered_division d a b first second v t → is_direct o b ≡ is_simple b → ((x y : ℕ) → operation_of o x y ≡ unless_zero Trap y (result_of d x y)) → IsLoweredTo rows words inputs (term.Bin o a b) (lowered_operation o a b first second v t) v t top env
     division_comes d whole direct value_is =
         let wa : Operand = division_operand_in a first.form v in
         let wb : Operand = division_operand_in b second.form t in
         let rest : Block = by_divisor d (constant_of a) (constant_of b) wa wb v in
-        let part = left_ready o a b v t top env none ready in
+        let part = left_ready o a b v t top env room ready in
         lowered_as (lowered_division d a b first second v t) whole
         (operands_come rows words inputs a b (division_operand_block a first v) (division_operand_block b second t) rest wa wb v t top env (IsIn v) (λ x y. operation_of o x y)
         ready.apart.0 ready.apart.1 ready.in_place.0 ready.in_place.1
@@ -243,18 +247,80 @@ module _ (laws : Laws) (rows words : List ℕ) (inputs : List Input) where
         (assigns_comes inputs rest env' v t top (unless_zero Trap y (result_of d x y)) (inside_still env' kept) (word_unless_zero y (result_of d x y) (laws.division_word d x y))
         (laws.division_assigns inputs d (constant_of a) (constant_of b) wa wb x y v env' both.left both.right))))
 
-  operation_comes : (o : BinOp) (a b : Term) (v t top : ℕ) (env : List ℕ) → constant_of (term.Bin o a b) ≡ None → Ready rows words inputs (term.Bin o a b) v t top env → IsLowered rows words inputs a v t top env → LowersRight b t top → IsLoweredTo rows words inputs (term.Bin o a b) (lowered_parts rows (term.Bin o a b) v t) v t top env
-  operation_comes sign.Add a b v t top env none ready left lower = arithmetic_comes sign.Add a b v t top env none ready left lower (is_plain a && is_plain b) refl refl refl refl (λ x y. refl)
-  operation_comes sign.Sub a b v t top env none ready left lower = arithmetic_comes sign.Sub a b v t top env none ready left lower (is_plain a && is_plain b) refl refl refl refl (λ x y. refl)
-  operation_comes sign.Mul a b v t top env none ready left lower = arithmetic_comes sign.Mul a b v t top env none ready left lower (is_plain a && is_plain b) refl refl refl refl (λ x y. refl)
-  operation_comes sign.Div a b v t top env none ready left lower = division_comes sign.Div a b v t top env none ready left lower Quotient refl refl (λ x y. refl)
-  operation_comes sign.Rem a b v t top env none ready left lower = division_comes sign.Rem a b v t top env none ready left lower Remainder refl refl (λ x y. refl)
-  operation_comes sign.Eq a b v t top env none ready left lower = comparison_comes sign.Eq a b v t top env none ready left lower refl refl (λ x y. refl)
-  operation_comes sign.Ne a b v t top env none ready left lower = comparison_comes sign.Ne a b v t top env none ready left lower refl refl (λ x y. refl)
-  operation_comes sign.Lt a b v t top env none ready left lower = comparison_comes sign.Lt a b v t top env none ready left lower refl refl (λ x y. refl)
-  operation_comes sign.Le a b v t top env none ready left lower = comparison_comes sign.Le a b v t top env none ready left lower refl refl (λ x y. refl)
-  operation_comes sign.Gt a b v t top env none ready left lower = comparison_comes sign.Gt a b v t top env none ready left lower refl refl (λ x y. refl)
-  operation_comes sign.Ge a b v t top env none ready left lower = comparison_comes sign.Ge a b v t top env none ready left lower refl refl (λ x y. refl)
+  operation_comes : (o : BinOp) (a b : Term) (v t top : ℕ) (env : List ℕ) → constant_of (term.Bin o a b) ≡ None → t + operation_temps o a b ≤ top → Ready rows words inputs (term.Bin o a b) v t top env → IsLowered rows words inputs a v t top env → LowersRight b t top → IsLoweredTo rows words inputs (term.Bin o a b) (lowered_operation o a b (lowered_term rows a v t) (lowered_term rows b t (t + 1)) v t) v t top env
+  operation_comes sign.Add a b v t top env none room ready left lower = arithmetic_comes sign.Add a b v t top env room ready left lower none refl (is_plain a && is_plain b) refl refl refl refl (λ x y. refl)
+  operation_comes sign.Sub a b v t top env none room ready left lower = arithmetic_comes sign.Sub a b v t top env room ready left lower none refl (is_plain a && is_plain b) refl refl refl refl (λ x y. refl)
+  operation_comes sign.Mul a b v t top env none room ready left lower = arithmetic_comes sign.Mul a b v t top env room ready left lower none refl (is_plain a && is_plain b) refl refl refl refl (λ x y. refl)
+  operation_comes sign.Div a b v t top env none room ready left lower = division_comes sign.Div a b v t top env room ready left lower Quotient refl refl (λ x y. refl)
+  operation_comes sign.Rem a b v t top env none room ready left lower = division_comes sign.Rem a b v t top env room ready left lower Remainder refl refl (λ x y. refl)
+  operation_comes sign.Eq a b v t top env none room ready left lower = comparison_comes sign.Eq a b v t top env room ready left lower refl refl (λ x y. refl)
+  operation_comes sign.Ne a b v t top env none room ready left lower = comparison_comes sign.Ne a b v t top env room ready left lower refl refl (λ x y. refl)
+  operation_comes sign.Lt a b v t top env none room ready left lower = comparison_comes sign.Lt a b v t top env room ready left lower refl refl (λ x y. refl)
+  operation_comes sign.Le a b v t top env none room ready left lower = comparison_comes sign.Le a b v t top env room ready left lower refl refl (λ x y. refl)
+  operation_comes sign.Gt a b v t top env none room ready left lower = comparison_comes sign.Gt a b v t top env room ready left lower refl refl (λ x y. refl)
+  operation_comes sign.Ge a b v t top env none room ready left lower = comparison_comes sign.Ge a b v t top env room ready left lower refl refl (λ x y. refl)
+
+  -- ---- comparisons of a remainder with 0
+
+  multiple_word : (o : BinOp) (c x : ℕ) → multiple_value o c x < 2 ^ 64
+  multiple_word o c x = truth_word (comparison_truth o (remainder_of x c) 0)
+
+  module _ (o : BinOp) (x e : Term) (c v t top : ℕ) (env : List ℕ) (equality : IsTrue (is_equality o)) (c_word : IsWord c) (c_positive : c ≢ 0) (ready : Ready rows words inputs x v t top env) (lower : IsLowered rows words inputs x v t top env) where
+    abbrev dividend : Lowered
+    dividend = lowered_term rows x v t
+
+    abbrev IsTested : Operand → ℕ → List ℕ → Type 0
+    IsTested w y env' = HasTruth rows words inputs (multiple_test o w (magnitude_of c)) env' y
+
+    -- the operand has the value still
+    still_has : (w : Operand) (y : ℕ) (env' : List ℕ) → Kept v t top env env' → IsKeptOperand rows words inputs x w v y env' → operand_value inputs w env' ≡ Is y
+    still_has w y env' kept held = held.0 env' (still_in_place rows words inputs x v t top env env' ready.apart kept ready.in_place) refl
+
+    -- the constant divides 2 ^ 64: the word itself is tested
+    word_tested : IsTrue (divides_modulus (magnitude_of c)) → ComesTo inputs (operand_block dividend v) env v t top (IsTested (operand_in dividend.form v)) (with_value (value x words inputs) (λ y. Is (multiple_value o c y)))
+    word_tested modulus =
+        maps inputs (operand_block dividend v) env v t top (IsKeptOperand rows words inputs x (operand_in dividend.form v) v) (IsTested (operand_in dividend.form v)) (value x words inputs) (multiple_value o c)
+        (left_comes rows words inputs laws x v t top env ready lower)
+        (λ y env' word kept held. (
+          multiple_word o c y,
+          record {
+            truth = comparison_truth o (remainder_of y c) 0;
+            is = laws.multiple_of_word inputs o (operand_in dividend.form v) y c env' equality word c_word c_positive modulus (still_has (operand_in dividend.form v) y env' kept held);
+            as_word = refl;
+          },
+        ))
+
+    -- else its magnitude, which is put into v
+    magnitude_put : (w : Operand) (y : ℕ) (env' : List ℕ) → y < 2 ^ 64 → v < length env' → operand_value inputs w env' ≡ Is y → GoesOn inputs (magnitude_block w v) env' v t top (IsTested (Var v)) (multiple_value o c y)
+    magnitude_put w y env' word inside is =
+        let put : GoesOn inputs (magnitude_block w v) env' v t top (IsIn v) (magnitude_of y) =
+        assigns_comes inputs (magnitude_block w v) env' v t top (Is (magnitude_of y)) inside (laws.magnitude_word y word) (laws.magnitude_assigns inputs w y v env' is) in
+        record {
+          env' = put.env';
+          runs = put.runs;
+          kept = put.kept;
+          word = multiple_word o c y;
+          holds = record {
+            truth = comparison_truth o (remainder_of y c) 0;
+            is = laws.multiple_of_magnitude inputs o (Var v) y c put.env' equality word c_word c_positive (ap Is put.holds);
+            as_word = refl;
+          };
+        }
+
+    magnitude_tested : ComesTo inputs (join (division_operand_block x dividend v) (magnitude_block (division_operand_in x dividend.form v) v)) env v t top (IsTested (Var v)) (with_value (value x words inputs) (λ y. Is (multiple_value o c y)))
+    magnitude_tested =
+        then_comes inputs (division_operand_block x dividend v) (magnitude_block (division_operand_in x dividend.form v) v) env v t top (IsKeptOperand rows words inputs x (division_operand_in x dividend.form v) v) (IsTested (Var v)) (value x words inputs) (λ y. Is (multiple_value o c y))
+        (division_operand_comes rows words inputs laws x v t top env (is_simple x) refl ready lower)
+        (λ y env' word kept held. magnitude_put (division_operand_in x dividend.form v) y env' word (subst (λ n. v < n) (sym kept.same) ready.inside) (still_has (division_operand_in x dividend.form v) y env' kept held))
+
+    multiple_comes : value e words inputs ≡ with_value (value x words inputs) (λ y. Is (multiple_value o c y)) → IsLoweredTo rows words inputs e (lowered_multiple o x c dividend v) v t top env
+    multiple_comes same =
+        subst (λ g. ComesTo inputs (lowered_multiple o x c dividend v).block env v t top (IsTested (if divides_modulus (magnitude_of c) then operand_in dividend.form v else Var v)) g) (sym same)
+        (by_modulus (divides_modulus (magnitude_of c)) refl)
+      where
+        by_modulus : (b : Bool) → divides_modulus (magnitude_of c) ≡ b → ComesTo inputs (if b then operand_block dividend v else join (division_operand_block x dividend v) (magnitude_block (division_operand_in x dividend.form v) v)) env v t top (IsTested (if b then operand_in dividend.form v else Var v)) (with_value (value x words inputs) (λ y. Is (multiple_value o c y)))
+        by_modulus true is = word_tested is
+        by_modulus false is = magnitude_tested
 
   -- ---- choices
 
@@ -482,38 +548,75 @@ module _ (laws : Laws) (rows words : List ℕ) (inputs : List Input) where
           constant_plain c is = ap (λ k. is_some k || has_plain_parts e) is
       by_constant_of None is = subst (λ l. IsLoweredTo rows words inputs e l v t top env) (sym (unfolded e v t is)) (parts v t top env is ready)
 
-  parts_lower : (e : Term) → LowersTo e
-  parts_lower (term.Lit c) v t top env none ready = absurd cc
-  parts_lower (term.Truth b) v t top env none ready = absurd cc
-  parts_lower (term.Var k) v t top env none ready = plain_parts_comes (term.Var k) v t top env none refl ready
-  parts_lower (term.Param k) v t top env none ready = plain_parts_comes (term.Param k) v t top env none refl ready
-  parts_lower (term.Len k) v t top env none ready = plain_parts_comes (term.Len k) v t top env none refl ready
-  parts_lower (term.Neg a) v t top env none ready =
-      let part = part_within a (term.Neg a) v t top env ready.has ready.apart ready.in_place ready (parts_room (term.Neg a) t top none ready.room) in
-      minus_comes a v t top env (is_plain a) refl none ready part (folded_comes a (parts_lower a) v t top env part)
-  parts_lower (term.Not a) v t top env none ready =
-      let part = part_within a (term.Not a) v t top env ready.has ready.apart ready.in_place ready (parts_room (term.Not a) t top none ready.room) in
-      not_comes a v t top env part (folded_comes a (parts_lower a) v t top env part)
-  parts_lower (term.Bin o a b) v t top env none ready =
-      operation_comes o a b v t top env none ready (folded_comes a (parts_lower a) v t top env (left_ready o a b v t top env none ready))
-      (λ env' part. folded_comes b (parts_lower b) t (t + 1) top env' part)
-  parts_lower (term.And a b) v t top env none ready =
-      connected_comes Conjunction a b (term.And a b) v t top env (constant_of a) refl (λ c is. conjunction_decided a b c none is) refl
-      (parts_room (term.And a b) t top none ready.room)
-      (part_within a (term.And a b) v t top env ready.has.0 ready.apart.0 ready.in_place.0 ready) (part_within b (term.And a b) v t top env ready.has.1 ready.apart.1 ready.in_place.1 ready)
-      (λ env' part. folded_comes a (parts_lower a) v t top env' part) (λ env' part. folded_comes b (parts_lower b) v t top env' part)
-  parts_lower (term.Or a b) v t top env none ready =
-      connected_comes Disjunction a b (term.Or a b) v t top env (constant_of a) refl (λ c is. disjunction_decided a b c none is) refl
-      (parts_room (term.Or a b) t top none ready.room)
-      (part_within a (term.Or a b) v t top env ready.has.0 ready.apart.0 ready.in_place.0 ready) (part_within b (term.Or a b) v t top env ready.has.1 ready.apart.1 ready.in_place.1 ready)
-      (λ env' part. folded_comes a (parts_lower a) v t top env' part) (λ env' part. folded_comes b (parts_lower b) v t top env' part)
-  parts_lower (term.If c a b) v t top env none ready =
-      chosen_comes c a b v t top env (constant_of c) refl (parts_room (term.If c a b) t top none ready.room)
-      (part_within c (term.If c a b) v t top env ready.has.0 ready.apart.0 ready.in_place.0 ready)
-      (part_within a (term.If c a b) v t top env ready.has.1.0 ready.apart.1.0 ready.in_place.1.0 ready)
-      (part_within b (term.If c a b) v t top env ready.has.1.1 ready.apart.1.1 ready.in_place.1.1 ready)
-      (λ env' part. folded_comes c (parts_lower c) v t top env' part) (λ env' part. folded_comes a (parts_lower a) v t top env' part)
-      (λ env' part. folded_comes b (parts_lower b) v t top env' part)
+  -- the dividend of a remainder is lowered in the place of the remainder
+  abbrev DividendLowers : Term → Type 0
+  DividendLowers a = (c v t top : ℕ) (env : List ℕ) → divisor_of a ≡ Some c → Ready rows words inputs (dividend_of a) v t top env → IsLoweredTo rows words inputs (dividend_of a) (lowered_dividend rows a v t) v t top env
+
+  dividend_ready : (a whole : Term) (c v t top : ℕ) (env : List ℕ) → divisor_of a ≡ Some c → EachLeaf IsWordLeaf a → IsDisjoint rows v t top a → WordsInPlace rows words inputs env a → Ready rows words inputs whole v t top env → t + dividend_temps a ≤ top → Ready rows words inputs (dividend_of a) v t top env
+  dividend_ready a whole c v t top env is has apart in_place ready room =
+      part_within (dividend_of a) whole v t top env (dividend_leaves IsWordLeaf a has) (dividend_leaves (IsDisjointLeaf rows v t top) a apart) (dividend_leaves (IsLeafInPlace rows words inputs env) a in_place) ready
+      (omega (arith, room, dividend_room a c is))
+
+  dividend_comes : (o : BinOp) (a e : Term) (c v t top : ℕ) (env : List ℕ) → IsTrue (is_equality o) → divisor_of a ≡ Some c → EachLeaf IsWordLeaf a → value e words inputs ≡ with_value (value (dividend_of a) words inputs) (λ y. Is (multiple_value o c y)) → DividendLowers a → Ready rows words inputs (dividend_of a) v t top env → IsLoweredTo rows words inputs e (lowered_multiple o (dividend_of a) c (lowered_dividend rows a v t) v) v t top env
+  dividend_comes o a e c v t top env equality is has same lower ready =
+      let there = dividend_lowered rows a c v t is in
+      let part : IsLowered rows words inputs (dividend_of a) v t top env = subst (λ l. IsLoweredTo rows words inputs (dividend_of a) l v t top env) there (lower c v t top env is ready) in
+      subst (λ l. IsLoweredTo rows words inputs e (lowered_multiple o (dividend_of a) c l v) v t top env) (sym there)
+      (multiple_comes o (dividend_of a) e c v t top env equality (divisor_word laws a c has is) (divisor_not_zero a c is) ready part same)
+
+  binary_comes : (o : BinOp) (a b : Term) (v t top : ℕ) (env : List ℕ) → constant_of (term.Bin o a b) ≡ None → Ready rows words inputs (term.Bin o a b) v t top env → DividendLowers a → DividendLowers b → (Ready rows words inputs a v t top env → IsLowered rows words inputs a v t top env) → LowersRight b t top → IsLoweredTo rows words inputs (term.Bin o a b) (lowered_parts rows (term.Bin o a b) v t) v t top env
+  binary_comes o a b v t top env none ready first second left right =
+      by_left (multiple_divisor o a b) (multiple_divisor o b a) refl refl (parts_room (term.Bin o a b) t top none ready.room)
+    where
+      by_left : (j k : Option ℕ) → multiple_divisor o a b ≡ j → multiple_divisor o b a ≡ k → t + binary_temps j k (dividend_temps a) (dividend_temps b) (operation_temps o a b) ≤ top → IsLoweredTo rows words inputs (term.Bin o a b) (by_constant j (λ c. lowered_multiple o (dividend_of a) c (lowered_dividend rows a v t) v) (by_constant k (λ c. lowered_multiple o (dividend_of b) c (lowered_dividend rows b v t) v) (lowered_operation o a b (lowered_term rows a v t) (lowered_term rows b t (t + 1)) v t))) v t top env
+      by_left (Some c) k is other room =
+          let h = multiple_is o a b c is in
+          dividend_comes o a (term.Bin o a b) c v t top env h.equality h.divisor ready.has.0 (left_multiple laws words inputs o a b c h) first
+          (dividend_ready a (term.Bin o a b) c v t top env h.divisor ready.has.0 ready.apart.0 ready.in_place.0 ready room)
+      by_left None (Some c) is other room =
+          let h = multiple_is o b a c other in
+          dividend_comes o b (term.Bin o a b) c v t top env h.equality h.divisor ready.has.1 (right_multiple laws words inputs o a b c h) second
+          (dividend_ready b (term.Bin o a b) c v t top env h.divisor ready.has.1 ready.apart.1 ready.in_place.1 ready room)
+      by_left None None is other room =
+          operation_comes o a b v t top env none room ready (left (left_ready o a b v t top env room ready)) right
+
+  mutual
+    parts_lower : (e : Term) → LowersTo e
+    parts_lower (term.Lit c) v t top env none ready = absurd cc
+    parts_lower (term.Truth b) v t top env none ready = absurd cc
+    parts_lower (term.Var k) v t top env none ready = plain_parts_comes (term.Var k) v t top env none refl ready
+    parts_lower (term.Param k) v t top env none ready = plain_parts_comes (term.Param k) v t top env none refl ready
+    parts_lower (term.Len k) v t top env none ready = plain_parts_comes (term.Len k) v t top env none refl ready
+    parts_lower (term.Neg a) v t top env none ready =
+        let part = part_within a (term.Neg a) v t top env ready.has ready.apart ready.in_place ready (parts_room (term.Neg a) t top none ready.room) in
+        minus_comes a v t top env (is_plain a) refl none ready part (folded_comes a (parts_lower a) v t top env part)
+    parts_lower (term.Not a) v t top env none ready =
+        let part = part_within a (term.Not a) v t top env ready.has ready.apart ready.in_place ready (parts_room (term.Not a) t top none ready.room) in
+        not_comes a v t top env part (folded_comes a (parts_lower a) v t top env part)
+    parts_lower (term.Bin o a b) v t top env none ready =
+        binary_comes o a b v t top env none ready (dividend_lower a) (dividend_lower b) (λ part. folded_comes a (parts_lower a) v t top env part)
+        (λ env' part. folded_comes b (parts_lower b) t (t + 1) top env' part)
+    parts_lower (term.And a b) v t top env none ready =
+        connected_comes Conjunction a b (term.And a b) v t top env (constant_of a) refl (λ c is. conjunction_decided a b c none is) refl
+        (parts_room (term.And a b) t top none ready.room)
+        (part_within a (term.And a b) v t top env ready.has.0 ready.apart.0 ready.in_place.0 ready) (part_within b (term.And a b) v t top env ready.has.1 ready.apart.1 ready.in_place.1 ready)
+        (λ env' part. folded_comes a (parts_lower a) v t top env' part) (λ env' part. folded_comes b (parts_lower b) v t top env' part)
+    parts_lower (term.Or a b) v t top env none ready =
+        connected_comes Disjunction a b (term.Or a b) v t top env (constant_of a) refl (λ c is. disjunction_decided a b c none is) refl
+        (parts_room (term.Or a b) t top none ready.room)
+        (part_within a (term.Or a b) v t top env ready.has.0 ready.apart.0 ready.in_place.0 ready) (part_within b (term.Or a b) v t top env ready.has.1 ready.apart.1 ready.in_place.1 ready)
+        (λ env' part. folded_comes a (parts_lower a) v t top env' part) (λ env' part. folded_comes b (parts_lower b) v t top env' part)
+    parts_lower (term.If c a b) v t top env none ready =
+        chosen_comes c a b v t top env (constant_of c) refl (parts_room (term.If c a b) t top none ready.room)
+        (part_within c (term.If c a b) v t top env ready.has.0 ready.apart.0 ready.in_place.0 ready)
+        (part_within a (term.If c a b) v t top env ready.has.1.0 ready.apart.1.0 ready.in_place.1.0 ready)
+        (part_within b (term.If c a b) v t top env ready.has.1.1 ready.apart.1.1 ready.in_place.1.1 ready)
+        (λ env' part. folded_comes c (parts_lower c) v t top env' part) (λ env' part. folded_comes a (parts_lower a) v t top env' part)
+        (λ env' part. folded_comes b (parts_lower b) v t top env' part)
+
+    dividend_lower : (a : Term) → DividendLowers a
+    dividend_lower (term.Bin o x y) c v t top env is ready = folded_comes x (parts_lower x) v t top env ready
+    dividend_lower _ c v t top env is ready = absurd cc
 
   pub lowers : (e : Term) (v t top : ℕ) (env : List ℕ) → Ready rows words inputs e v t top env → IsLowered rows words inputs e v t top env
   lowers e v t top env ready = folded_comes e (parts_lower e) v t top env ready

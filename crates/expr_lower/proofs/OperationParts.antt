@@ -2,6 +2,7 @@
 -- itself, whose parts have run by then.
 use Rattle.std.proofs.Common.{◌≡◌, ℕ, zero, suc, ◌+◌, ◌-◌, ◌<◌, ◌^◌, List, Option, Some, None, Bool, true, false, ◌&&◌, ◌||◌, refl, sym, ap, ◌∙◌, arith}
 use Rattle.std.specs.Prelude.{IsTrue, if◌then◌else◌, is_some, min, max}
+use Rattle.strm_num.specs.Magnitudes.{magnitude_of}
 use Rattle.list_denotation.specs.declared.expr.BinOp.{BinOp}
 use Rattle.list_denotation.specs.declared.expr.BinOp.TheVariants as sign
 use Rattle.list_denotation.specs.Terms as term
@@ -9,12 +10,12 @@ use Rattle.list_denotation.specs.Terms.{Term}
 use Rattle.loop_ir.specs.declared.syntax.WOp.{WOp}
 use Rattle.loop_ir.specs.declared.syntax.WOp.TheVariants as op
 use Rattle.loop_ir.specs.Statements.{Operand, Var, Block, Nil, join}
-use Rattle.expr_phrases.specs.Phrases.{Division, Quotient, Remainder, minus, set, by_divisor}
+use Rattle.expr_phrases.specs.Phrases.{Division, Quotient, Remainder, minus, set, by_divisor, divides_modulus, magnitude_block}
 use Rattle.expr_constants.specs.Constants.{constant_of}
 use Rattle.expr_constants.specs.Simple.{is_simple}
-use Rattle.expr_lower.specs.Lowering.{Form, AWord, ATest, InTarget, is_word, as_word, in_target, operand_rest, operand_in, target_rest, lowered_minus, lowered_arithmetic, lowered_comparison, lowered_division, lowered_operation, lowered_term}
+use Rattle.expr_lower.specs.Lowering.{Form, AWord, ATest, InTarget, is_word, as_word, in_target, operand_rest, operand_in, target_rest, lowered_minus, lowered_arithmetic, lowered_comparison, lowered_division, lowered_operation, lowered_multiple, lowered_term}
 use Rattle.strm_num.proofs.Truths.{both_true}
-use Rattle.expr_lower.specs.Costs.{is_arithmetic, chosen_plain, has_plain_parts, is_plain, is_direct, unless_constant, chosen_temps, parts_temps, temps_of}
+use Rattle.expr_lower.specs.Costs.{is_arithmetic, chosen_plain, has_plain_parts, is_plain, is_direct, unless_constant, chosen_temps, operation_temps, parts_temps, temps_of}
 use Rattle.expr_lower.specs.FormCopies.{after_statements, without_statements, as_operand, kept_form, kept_rest}
 use Rattle.loop_ir.proofs.Copies.{join_join}
 use Rattle.expr_lower.proofs.Plain.{plain_form, simple_plain}
@@ -96,6 +97,16 @@ division_block : (d : Division) (x y : Term) (a b : Block) (f g : Form) (v t : �
 division_block d x y a b f g v t h k =
     division_if (is_simple x) (is_simple y) a b f g v t (λ p q. by_divisor d (constant_of x) (constant_of y) p q v) h k
 
+-- ---- a comparison of a remainder with 0
+
+pub multiple_block : (o : BinOp) (x : Term) (c : ℕ) (a : Block) (f : Form) (v : ℕ) → (IsTrue (is_simple x) → a ≡ Nil) → (lowered_multiple o x c (after_statements a f) v).block ≡ join a (lowered_multiple o x c (without_statements f) v).block
+multiple_block o x c a f v h = by_modulus (divides_modulus (magnitude_of c)) (is_simple x) h (λ w. magnitude_block w v)
+  where
+    by_modulus : (b simple : Bool) → (IsTrue simple → a ≡ Nil) → (go : Operand → Block) → (if b then join a (operand_rest f v) else join (if simple then Nil else join a (target_rest f v)) (go (if simple then operand_in f v else Var v))) ≡ join a (if b then operand_rest f v else join (if simple then Nil else target_rest f v) (go (if simple then operand_in f v else Var v)))
+    by_modulus true simple h go = refl
+    by_modulus false true h go = sym (ap (λ s. join s (go (operand_in f v))) (h refl))
+    by_modulus false false h go = join_join a (target_rest f v) (go (Var v))
+
 -- what is known of the statements of operands
 pub record IsShort (x : Term) (a : Block) (f : Form) : Type 0 where
   pub word : IsTrue (is_word f) → a ≡ Nil
@@ -147,6 +158,12 @@ none_kept : (d : Bool) (first second : ℕ) → IsTrue d → first ≡ 0 → max
 none_kept true first second h e = omega arith
 none_kept false first second h e = absurd cc
 
+arithmetic_temps : (o : BinOp) (a b : Term) → IsTrue (is_arithmetic o) → parts_temps (term.Bin o a b) ≡ operation_temps o a b
+arithmetic_temps sign.Add a b h = refl
+arithmetic_temps sign.Sub a b h = refl
+arithmetic_temps sign.Mul a b h = refl
+arithmetic_temps _ a b h = absurd cc
+
 none_folded : (k : Option ℕ) (parts : Bool) (n : ℕ) → (IsTrue parts → n ≡ 0) → IsTrue (is_some k || parts) → unless_constant k n ≡ 0
 none_folded (Some c) parts n f h = refl
 none_folded None parts n f h = f h
@@ -161,7 +178,8 @@ no_parts_temps (term.Neg a) h = none_folded (constant_of a) (has_plain_parts a) 
 no_parts_temps (term.Bin o a b) h =
     let first = both_true (is_arithmetic o) (is_plain a && is_plain b) h in
     let rest = both_true (is_plain a) (is_plain b) first.1 in
-    none_kept (is_direct o b) (temps_of a) (temps_of b + 1) (arithmetic_direct o b first.0 ∙ rest.1)
+    arithmetic_temps o a b first.0
+    ∙ none_kept (is_direct o b) (temps_of a) (temps_of b + 1) (arithmetic_direct o b first.0 ∙ rest.1)
     (none_folded (constant_of a) (has_plain_parts a) (parts_temps a) (no_parts_temps a) rest.0)
 no_parts_temps (term.Not a) h = absurd cc
 no_parts_temps (term.And a b) h = absurd cc
@@ -183,7 +201,7 @@ fits_if : (d : Bool) (first second t : ℕ) → (IsTrue d → second ≡ 0) → 
 fits_if true first second t h lt = let e : second ≡ 0 = h refl in omega arith
 fits_if false first second t h lt = omega arith
 
-pub right_fits : (o : BinOp) (a b : Term) (t : ℕ) → t + parts_temps (term.Bin o a b) < 2 ^ 32 → next_temp t + temps_of b < 2 ^ 32
+pub right_fits : (o : BinOp) (a b : Term) (t : ℕ) → t + operation_temps o a b < 2 ^ 32 → next_temp t + temps_of b < 2 ^ 32
 right_fits o a b t lt =
     fits_if (is_direct o b) (temps_of a) (temps_of b) t (λ d. plain_temps b (direct_plain o b d)) lt
 
@@ -194,5 +212,5 @@ at_next_if rows b false first t h lt =
     let e : next_temp t ≡ t + 1 = omega arith in
     ap (lowered_term rows b t) e
 
-pub at_next : (rows : List ℕ) (o : BinOp) (a b : Term) (t : ℕ) → t + parts_temps (term.Bin o a b) < 2 ^ 32 → lowered_term rows b t (next_temp t) ≡ lowered_term rows b t (t + 1)
+pub at_next : (rows : List ℕ) (o : BinOp) (a b : Term) (t : ℕ) → t + operation_temps o a b < 2 ^ 32 → lowered_term rows b t (next_temp t) ≡ lowered_term rows b t (t + 1)
 at_next rows o a b t lt = at_next_if rows b (is_direct o b) (temps_of a) t (direct_plain o b) lt

@@ -2,13 +2,14 @@
 use Rattle.std.proofs.Common.{◌≡◌, ℕ, zero, suc, ◌+◌, List, Bool, true, false, ◌&&◌, ◌||◌, Option, Some, None, refl, ◌∙◌}
 use Rattle.std.specs.Prelude.{IsTrue, if◌then◌else◌, is_some}
 use Rattle.list_denotation.specs.declared.expr.BinOp.{BinOp}
-use Rattle.list_denotation.specs.declared.expr.BinOp.TheVariants.{Add, Sub, Mul}
+use Rattle.list_denotation.specs.declared.expr.BinOp.TheVariants.{Add, Sub, Mul, Eq, Ne}
 use Rattle.list_denotation.specs.Terms.{Term, Neg, Not, Bin, And, Or, If}
 use Rattle.loop_ir.specs.Statements.{Operand, Test, Block}
-use Rattle.expr_constants.specs.Constants.{constant_of}
+use Rattle.expr_constants.specs.Constants.{by_constant, constant_of}
 use Rattle.expr_constants.specs.Simple.{is_leaf, is_simple}
 use Rattle.expr_phrases.specs.Phrases.{Connective, Conjunction, Disjunction}
-use Rattle.expr_lower.specs.Lowering.{Lowered, Condition, ATest, InTarget, is_word, as_word, in_target, lowered_operation, is_empty, lowered_connected, lowered_chosen, folded, lowered_parts, lowered_term}
+use Rattle.expr_lower.specs.Lowering.{Lowered, Condition, ATest, InTarget, is_word, as_word, in_target, lowered_operation, lowered_multiple, lowered_binary, is_empty, lowered_connected, lowered_chosen, folded, lowered_parts, lowered_dividend, lowered_term}
+use Rattle.expr_lower.specs.Multiples.{dividend_of, multiple_divisor}
 use Rattle.expr_lower.specs.Costs.{is_arithmetic, chosen_plain, has_plain_parts, is_plain}
 
 -- ---- forms and statements, from those of the parts
@@ -34,6 +35,22 @@ operation_form Sub x y a b v t = word_if (is_word a.form && is_word b.form) _ _
 operation_form Mul x y a b v t = word_if (is_word a.form && is_word b.form) _ _
 operation_form _ x y a b v t = refl
 
+-- nor is a comparison of a remainder with 0
+other_form : (left right : Option ℕ) (f g : ℕ → Lowered) (rest : Lowered) → ((c : ℕ) → is_word (f c).form ≡ false) → ((c : ℕ) → is_word (g c).form ≡ false) → is_word rest.form ≡ false → is_word (by_constant left f (by_constant right g rest)).form ≡ false
+other_form (Some c) right f g rest first second third = first c
+other_form None (Some c) f g rest first second third = second c
+other_form None None f g rest first second third = third
+
+binary_form : (o : BinOp) (p q : Term) (x y a b : Lowered) (v t : ℕ) → is_word (lowered_binary o p q x y a b v t).form ≡ (is_arithmetic o && (is_word a.form && is_word b.form))
+binary_form Add p q x y a b v t = operation_form Add p q a b v t
+binary_form Sub p q x y a b v t = operation_form Sub p q a b v t
+binary_form Mul p q x y a b v t = operation_form Mul p q a b v t
+binary_form Eq p q x y a b v t =
+    other_form (multiple_divisor Eq p q) (multiple_divisor Eq q p) (λ c. lowered_multiple Eq (dividend_of p) c x v) (λ c. lowered_multiple Eq (dividend_of q) c y v) (lowered_operation Eq p q a b v t) (λ c. refl) (λ c. refl) refl
+binary_form Ne p q x y a b v t =
+    other_form (multiple_divisor Ne p q) (multiple_divisor Ne q p) (λ c. lowered_multiple Ne (dividend_of p) c x v) (λ c. lowered_multiple Ne (dividend_of q) c y v) (lowered_operation Ne p q a b v t) (λ c. refl) (λ c. refl) refl
+binary_form _ p q x y a b v t = refl
+
 -- a test, or a value in the target, is no word either where a first part is constant
 connected_form : (o : Connective) (first : Option ℕ) (a b : Condition) (v : ℕ) → is_word (lowered_connected o first a b v).form ≡ false
 connected_form o (Some c) a b v = refl
@@ -58,7 +75,7 @@ parts_form rows (Neg a) v t = word_if (is_word (folded (constant_of a) (lowered_
 parts_form rows (Bin o a b) v t =
     let first = lowered_term rows a v t in
     let second = lowered_term rows b t (t + 1) in
-    operation_form o a b first second v t
+    binary_form o a b (lowered_dividend rows a v t) (lowered_dividend rows b v t) first second v t
     ∙ same_parts o (is_word first.form) (is_word second.form) (is_plain a) (is_plain b)
     (folded_form (constant_of a) (lowered_parts rows a v t) (has_plain_parts a) (parts_form rows a v t))
     (folded_form (constant_of b) (lowered_parts rows b t (t + 1)) (has_plain_parts b) (parts_form rows b t (t + 1)))

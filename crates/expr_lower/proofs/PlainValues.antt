@@ -16,11 +16,12 @@ use Rattle.loop_ir.specs.Meaning.{operand_value, word_operation}
 use Rattle.expr_constants.specs.Constants.{by_constant, constant_of}
 use Rattle.expr_phrases.specs.Phrases.{Quotient, Remainder}
 use Rattle.expr_lower.specs.Laws.{Laws}
-use Rattle.expr_lower.specs.Lowering.{Lowered, Condition, as_word, lowered_minus, lowered_operation, lowered_chosen, folded, lowered_parts, lowered_term}
+use Rattle.expr_lower.specs.Lowering.{Lowered, Condition, as_word, lowered_minus, lowered_operation, lowered_chosen, folded, lowered_parts, lowered_dividend, lowered_term}
 use Rattle.expr_lower.specs.Costs.{is_arithmetic, chosen_plain, has_plain_parts, is_plain}
 use Rattle.expr_lower.specs.PlainWords.{folded_word, arithmetic_operator, parts_word, plain_word}
 use Rattle.expr_lower.specs.Scopes.{EachLeaf, IsWordLeaf, WordsInPlace}
 use Rattle.expr_lower.proofs.Effects.{IsWordValue}
+use Rattle.expr_lower.proofs.MultipleTests.{binary_arithmetic}
 
 abbrev pub arithmetic_value : BinOp → ℕ → ℕ → ℕ
 arithmetic_value sign.Sub x y = difference_of x y
@@ -72,7 +73,8 @@ parts_lowered rows (term.Bin o a b) v t plain =
     let parts = plain_parts o a b plain in
     let first = folded_lowered (constant_of a) (lowered_parts rows a v t) (parts_word rows a) (has_plain_parts a) (parts_lowered rows a v t) parts.left in
     let second = folded_lowered (constant_of b) (lowered_parts rows b t (t + 1)) (parts_word rows b) (has_plain_parts b) (parts_lowered rows b t (t + 1)) parts.right in
-    ap (λ l. lowered_operation o a b l (lowered_term rows b t (t + 1)) v t) first
+    binary_arithmetic o a b (lowered_dividend rows a v t) (lowered_dividend rows b v t) (lowered_term rows a v t) (lowered_term rows b t (t + 1)) v t parts.operator
+    ∙ ap (λ l. lowered_operation o a b l (lowered_term rows b t (t + 1)) v t) first
     ∙ ap (λ l. lowered_operation o a b (as_word (plain_word rows a)) l v t) second
     ∙ operation_lowered o a b (plain_word rows a) (plain_word rows b) v t parts.operator
 parts_lowered rows (term.If c a b) v t plain =

@@ -49,6 +49,13 @@ of_choices =
     ∷ Or (Bin Lt x y) (Bin Lt y (Lit 1))
     ∷ Or (Bin Eq y (Lit 0)) (Bin Gt (Bin Div x y) (Lit 0))
     ∷ Or x (Bin Rem x y)
+    ∷ Bin Eq (Bin Rem x (Lit 4)) (Lit 0)
+    ∷ Bin Ne (Bin Rem x (Neg (Lit 6))) (Lit 0)
+    ∷ Bin Eq (Bin Rem x (Lit (2 ^ 63))) (Lit 0)
+    ∷ Bin Eq (Lit 0) (Bin Rem (Bin Sub x y) (Lit 3))
+    ∷ Bin Ne (Bin Rem (Bin Div x (Lit 3)) (Neg (Lit 8))) (Lit 0)
+    ∷ And (Bin Lt (Lit 3) (Lit 5)) (Bin Le x (Neg (Lit 1)))
+    ∷ If (Not (Truth false)) (Bin Ge x (Lit 0)) (Bin Div x y)
     ∷ If (Bin Eq y (Lit 0)) (Lit 0) (Bin Div x y)
     ∷ If (Bin Gt (Bin Div x (Lit 2)) y) (Bin Mul x y) (If (Bin Lt x y) (Neg x) y)
     ∷ []

@@ -106,3 +106,29 @@ ruled_out_temporaries = refl
 -- true && x == 5 is x == 5
 second_text : (lowered_test (1 ∷ []) (term.And (term.Truth true) (term.Bin sign.Eq (term.Var 0) (term.Lit 5))) 2 3).test ≡ Same (Var 1) (Const 5)
 second_text = refl
+
+-- x % 2 == 0 tests the word itself
+even_text : lowered_test (1 ∷ []) (term.Bin sign.Eq (term.Bin sign.Rem (term.Var 0) (term.Lit 2)) (term.Lit 0)) 2 3
+    ≡ record { block = Nil; test = Same (Bin op.Rem (Var 1) (Const 2)) (Const 0) }
+even_text = refl
+
+-- x % 3 != 0 tests its magnitude
+no_third_text : lowered_test (1 ∷ []) (term.Bin sign.Ne (term.Bin sign.Rem (term.Var 0) (term.Lit 3)) (term.Lit 0)) 2 3
+    ≡ record {
+      block = Cons (If (Less (Var 1) (Const (2 ^ 63))) (Cons (Set 2 (Var 1)) Nil) (Cons (Set 2 (Bin op.Sub (Const 0) (Var 1))) Nil)) Nil;
+      test = Not (Same (Bin op.Rem (Var 2) (Const 3)) (Const 0));
+    }
+no_third_text = refl
+
+-- 0 == (x + 1) % -3: the sum is put into the target, and there its magnitude
+of_sum_text : lowered_test (1 ∷ []) (term.Bin sign.Eq (term.Lit 0) (term.Bin sign.Rem (term.Bin sign.Add (term.Var 0) (term.Lit 1)) (term.Neg (term.Lit 3)))) 2 3
+    ≡ record {
+      block =
+          Cons (Set 2 (Bin op.Add (Var 1) (Const 1)))
+          (Cons (If (Less (Var 2) (Const (2 ^ 63))) Nil (Cons (Set 2 (Bin op.Sub (Const 0) (Var 2))) Nil)) Nil);
+      test = Same (Bin op.Rem (Var 2) (Const 3)) (Const 0);
+    }
+of_sum_text = refl
+
+of_sum_temporaries : temps_of (term.Bin sign.Eq (term.Lit 0) (term.Bin sign.Rem (term.Bin sign.Add (term.Var 0) (term.Lit 1)) (term.Lit 3))) ≡ 0
+of_sum_temporaries = refl

@@ -7,6 +7,7 @@ use Rattle.list_denotation.specs.Typing.{is_division}
 use Rattle.list_denotation.specs.Values.{choice}
 use Rattle.expr_constants.specs.Constants.{by_constant, constant_of}
 use Rattle.expr_constants.specs.Simple.{is_leaf, is_simple}
+use Rattle.expr_lower.specs.Multiples.{multiple_divisor}
 
 abbrev pub operation_cost : BinOp → ℕ
 operation_cost Add = 1
@@ -75,24 +76,37 @@ connected_temps first m n = by_constant first (λ c. n) (max m n)
 abbrev pub chosen_temps : Option ℕ → ℕ → ℕ → ℕ → ℕ
 chosen_temps condition l m n = by_constant condition (λ x. choice x n m) (max l (max m n))
 
-abbrev pub parts_temps : Term → ℕ
-parts_temps (Lit c) = 0
-parts_temps (Truth b) = 0
-parts_temps (Var k) = 0
-parts_temps (Param k) = 0
-parts_temps (Len k) = 0
-parts_temps (Neg a) = unless_constant (constant_of a) (parts_temps a)
-parts_temps (Not a) = unless_constant (constant_of a) (parts_temps a)
-parts_temps (Bin o a b) =
-    max (unless_constant (constant_of a) (parts_temps a))
-    (if is_direct o b then 0 else unless_constant (constant_of b) (parts_temps b) + 1)
-parts_temps (And a b) =
-    connected_temps (constant_of a) (unless_constant (constant_of a) (parts_temps a)) (unless_constant (constant_of b) (parts_temps b))
-parts_temps (Or a b) =
-    connected_temps (constant_of a) (unless_constant (constant_of a) (parts_temps a)) (unless_constant (constant_of b) (parts_temps b))
-parts_temps (If c a b) =
-    chosen_temps (constant_of c) (unless_constant (constant_of c) (parts_temps c))
-    (unless_constant (constant_of a) (parts_temps a)) (unless_constant (constant_of b) (parts_temps b))
+-- those of a dividend, where a remainder is compared with 0
+abbrev pub binary_temps : Option ℕ → Option ℕ → ℕ → ℕ → ℕ → ℕ
+binary_temps left right m n rest = by_constant left (λ c. m) (by_constant right (λ c. n) rest)
+
+abbrev mutual
+  pub parts_temps : Term → ℕ
+  parts_temps (Lit c) = 0
+  parts_temps (Truth b) = 0
+  parts_temps (Var k) = 0
+  parts_temps (Param k) = 0
+  parts_temps (Len k) = 0
+  parts_temps (Neg a) = unless_constant (constant_of a) (parts_temps a)
+  parts_temps (Not a) = unless_constant (constant_of a) (parts_temps a)
+  parts_temps (Bin o a b) =
+      binary_temps (multiple_divisor o a b) (multiple_divisor o b a) (dividend_temps a) (dividend_temps b)
+      (max (unless_constant (constant_of a) (parts_temps a)) (if is_direct o b then 0 else unless_constant (constant_of b) (parts_temps b) + 1))
+  parts_temps (And a b) =
+      connected_temps (constant_of a) (unless_constant (constant_of a) (parts_temps a)) (unless_constant (constant_of b) (parts_temps b))
+  parts_temps (Or a b) =
+      connected_temps (constant_of a) (unless_constant (constant_of a) (parts_temps a)) (unless_constant (constant_of b) (parts_temps b))
+  parts_temps (If c a b) =
+      chosen_temps (constant_of c) (unless_constant (constant_of c) (parts_temps c))
+      (unless_constant (constant_of a) (parts_temps a)) (unless_constant (constant_of b) (parts_temps b))
+
+  pub dividend_temps : Term → ℕ
+  dividend_temps (Bin o x y) = unless_constant (constant_of x) (parts_temps x)
+  dividend_temps _ = 0
 
 abbrev pub temps_of : Term → ℕ
 temps_of e = unless_constant (constant_of e) (parts_temps e)
+
+-- those of an operation: the right operand has one of its own where it is kept
+abbrev pub operation_temps : BinOp → Term → Term → ℕ
+operation_temps o a b = max (temps_of a) (if is_direct o b then 0 else temps_of b + 1)

@@ -1,3 +1,4 @@
+pub mod Multiples
 pub mod Lowering
 pub mod Costs
 pub mod PlainWords

@@ -2,6 +2,7 @@
 -- that needs no statements is a word or a test of the C text as it stands.
 use Rattle.std.specs.Prelude.{ℕ, ◌+◌, Bool, true, false, ◌&&◌, if◌then◌else◌, Option, List, slice_index}
 use Rattle.strm_num.specs.Words.{truth_of}
+use Rattle.strm_num.specs.Magnitudes.{magnitude_of}
 use Rattle.list_denotation.specs.declared.expr.BinOp.{BinOp}
 use Rattle.list_denotation.specs.declared.expr.BinOp.TheVariants as sign
 use Rattle.list_denotation.specs.Terms as term
@@ -10,9 +11,10 @@ use Rattle.list_denotation.specs.Values.{choice}
 use Rattle.loop_ir.specs.declared.syntax.WOp.{WOp}
 use Rattle.loop_ir.specs.declared.syntax.WOp.TheVariants as op
 use Rattle.loop_ir.specs.Statements.{Operand, Const, Var, Len, Int, Bin, Test, Same, Not, If, Block, Nil, Cons, join}
-use Rattle.expr_phrases.specs.Phrases.{Division, Quotient, Remainder, set, minus, set_truth, opposite, comparison_test, by_divisor, Connective, Conjunction, Disjunction, connected_test, connected_block}
+use Rattle.expr_phrases.specs.Phrases.{Division, Quotient, Remainder, set, minus, set_truth, opposite, comparison_test, by_divisor, Connective, Conjunction, Disjunction, connected_test, connected_block, divides_modulus, magnitude_block, multiple_test}
 use Rattle.expr_constants.specs.Constants.{by_constant, constant_of}
 use Rattle.expr_constants.specs.Simple.{is_simple}
+use Rattle.expr_lower.specs.Multiples.{dividend_of, multiple_divisor}
 
 -- where the value of an expression is to be found once its statements have run
 pub data Form : Type 0 where
@@ -126,6 +128,21 @@ lowered_operation sign.Le x y a b v t = lowered_comparison sign.Le a b v t
 lowered_operation sign.Gt x y a b v t = lowered_comparison sign.Gt a b v t
 lowered_operation sign.Ge x y a b v t = lowered_comparison sign.Ge a b v t
 
+-- whether x is a multiple of a constant: of its magnitude, which is put into v where the constant is no power of two
+abbrev pub lowered_multiple : BinOp → Term → ℕ → Lowered → ℕ → Lowered
+lowered_multiple o x c l v = record {
+  block =
+      if divides_modulus (magnitude_of c) then operand_block l v
+      else join (division_operand_block x l v) (magnitude_block (division_operand_in x l.form v) v);
+  form = ATest (multiple_test o (if divides_modulus (magnitude_of c) then operand_in l.form v else Var v) (magnitude_of c));
+}
+
+-- an operation on a and b, whose dividends are x and y where they are remainders
+abbrev pub lowered_binary : BinOp → Term → Term → Lowered → Lowered → Lowered → Lowered → ℕ → ℕ → Lowered
+lowered_binary o a b x y first second v t =
+    by_constant (multiple_divisor o a b) (λ c. lowered_multiple o (dividend_of a) c x v)
+    (by_constant (multiple_divisor o b a) (λ c. lowered_multiple o (dividend_of b) c y v) (lowered_operation o a b first second v t))
+
 abbrev pub is_empty : Block → Bool
 is_empty Nil = true
 is_empty (Cons s ss) = false
@@ -159,27 +176,34 @@ lowered_chosen condition c a b v = by_constant condition (λ x. choice x b a) (l
 abbrev pub folded : Option ℕ → Lowered → Lowered
 folded k l = by_constant k (λ c. as_word (Const c)) l
 
--- an expression from its parts, whose bound words stand in the variables `rows`, with the target v. Its temporaries are
--- those from t on
-abbrev pub lowered_parts : List ℕ → Term → ℕ → ℕ → Lowered
-lowered_parts rows (term.Lit c) v t = as_word (Const c)
-lowered_parts rows (term.Truth b) v t = as_word (Const (truth_of b))
-lowered_parts rows (term.Var k) v t = as_word (Var (slice_index rows k))
-lowered_parts rows (term.Param k) v t = as_word (Int k)
-lowered_parts rows (term.Len k) v t = as_word (Len k)
-lowered_parts rows (term.Neg a) v t = lowered_minus (folded (constant_of a) (lowered_parts rows a v t)) v
-lowered_parts rows (term.Not a) v t = lowered_not (condition_of (folded (constant_of a) (lowered_parts rows a v t)) v)
-lowered_parts rows (term.Bin o a b) v t =
-    lowered_operation o a b (folded (constant_of a) (lowered_parts rows a v t)) (folded (constant_of b) (lowered_parts rows b t (t + 1))) v t
-lowered_parts rows (term.And a b) v t =
-    lowered_connected Conjunction (constant_of a) (condition_of (folded (constant_of a) (lowered_parts rows a v t)) v)
-    (condition_of (folded (constant_of b) (lowered_parts rows b v t)) v) v
-lowered_parts rows (term.Or a b) v t =
-    lowered_connected Disjunction (constant_of a) (condition_of (folded (constant_of a) (lowered_parts rows a v t)) v)
-    (condition_of (folded (constant_of b) (lowered_parts rows b v t)) v) v
-lowered_parts rows (term.If c a b) v t =
-    lowered_chosen (constant_of c) (condition_of (folded (constant_of c) (lowered_parts rows c v t)) v)
-    (folded (constant_of a) (lowered_parts rows a v t)) (folded (constant_of b) (lowered_parts rows b v t)) v
+abbrev mutual
+  -- an expression from its parts, whose bound words stand in the variables `rows`, with the target v. Its temporaries are
+  -- those from t on
+  pub lowered_parts : List ℕ → Term → ℕ → ℕ → Lowered
+  lowered_parts rows (term.Lit c) v t = as_word (Const c)
+  lowered_parts rows (term.Truth b) v t = as_word (Const (truth_of b))
+  lowered_parts rows (term.Var k) v t = as_word (Var (slice_index rows k))
+  lowered_parts rows (term.Param k) v t = as_word (Int k)
+  lowered_parts rows (term.Len k) v t = as_word (Len k)
+  lowered_parts rows (term.Neg a) v t = lowered_minus (folded (constant_of a) (lowered_parts rows a v t)) v
+  lowered_parts rows (term.Not a) v t = lowered_not (condition_of (folded (constant_of a) (lowered_parts rows a v t)) v)
+  lowered_parts rows (term.Bin o a b) v t =
+      lowered_binary o a b (lowered_dividend rows a v t) (lowered_dividend rows b v t) (folded (constant_of a) (lowered_parts rows a v t))
+      (folded (constant_of b) (lowered_parts rows b t (t + 1))) v t
+  lowered_parts rows (term.And a b) v t =
+      lowered_connected Conjunction (constant_of a) (condition_of (folded (constant_of a) (lowered_parts rows a v t)) v)
+      (condition_of (folded (constant_of b) (lowered_parts rows b v t)) v) v
+  lowered_parts rows (term.Or a b) v t =
+      lowered_connected Disjunction (constant_of a) (condition_of (folded (constant_of a) (lowered_parts rows a v t)) v)
+      (condition_of (folded (constant_of b) (lowered_parts rows b v t)) v) v
+  lowered_parts rows (term.If c a b) v t =
+      lowered_chosen (constant_of c) (condition_of (folded (constant_of c) (lowered_parts rows c v t)) v)
+      (folded (constant_of a) (lowered_parts rows a v t)) (folded (constant_of b) (lowered_parts rows b v t)) v
+
+  -- the dividend of a remainder. The last case stands for what is no remainder
+  pub lowered_dividend : List ℕ → Term → ℕ → ℕ → Lowered
+  lowered_dividend rows (term.Bin o x y) v t = folded (constant_of x) (lowered_parts rows x v t)
+  lowered_dividend rows _ v t = as_word (Const 0)
 
 -- an expression
 abbrev pub lowered_term : List ℕ → Term → ℕ → ℕ → Lowered

@@ -18,6 +18,7 @@ ghost use Rattle.expr_lower.specs.Scopes.{WordsInPlace, ScopeInPlace, MayNameWor
 use expr_constants::constants_are_values;
 use expr_phrases::{
     comparisons_tell_the_signed_order, divisions_assign_signed_results, opposites_negate,
+    zero_remainders_need_no_sign,
 };
 
 /// What expr_constants and expr_phrases promise of their definitions.
@@ -28,6 +29,7 @@ pub fn laws_below()
     opposites_negate();
     comparisons_tell_the_signed_order();
     divisions_assign_signed_results();
+    zero_remainders_need_no_sign();
 }
 
 /// The cost of an expression is at most 9 for each of its nodes.

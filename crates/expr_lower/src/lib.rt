@@ -15,6 +15,7 @@ mod connectives;
 mod forms;
 mod laws;
 mod lowering;
+mod multiples;
 mod operations;
 mod statements;
 mod temporaries;

@@ -1,25 +1,26 @@
 //! The statements of expressions.
 
-ghost use Rattle.std.specs.Prelude.{◌≡◌, ℕ, ◌+◌, ◌<◌, ◌^◌, max, length, slice_index, EachIndex, IfOk, OnOk};
+ghost use Rattle.std.specs.Prelude.{◌≡◌, ◌≢◌, ℕ, ◌+◌, ◌<◌, ◌^◌, max, length, slice_index, EachIndex, IfOk, OnOk};
 ghost use Rattle.list_denotation.specs.Copies.{term_of};
 ghost use Rattle.list_denotation.specs.Terms.{Bin};
 ghost use Rattle.loop_ir.specs.StatementCopies.{operand_of, test_of};
-ghost use Rattle.expr_lower.specs.Lowering.{operand_block, operand_in, lowered_connected, lowered_choice, lowered_chosen, lowered_parts, lowered_term, lowered_into, lowered_test};
+ghost use Rattle.expr_lower.specs.Lowering.{operand_block, operand_in, lowered_connected, lowered_choice, lowered_chosen, lowered_operation, lowered_multiple, lowered_parts, lowered_term, lowered_into, lowered_test};
 ghost use Rattle.expr_constants.specs.Constants.{constant_of};
-ghost use Rattle.expr_lower.specs.Costs.{connected_temps, chosen_temps, parts_temps, temps_of};
+ghost use Rattle.expr_lower.specs.Costs.{connected_temps, chosen_temps, operation_temps, parts_temps, temps_of};
 ghost use Rattle.expr_lower.specs.Scopes.{EachLeaf, IsWordLeaf, IsBoundLeaf};
 ghost use Rattle.expr_phrases.specs.PhraseCopies.{connective_of, Appends};
 ghost use Rattle.expr_lower.specs.FormCopies.{form_of};
 
 use crate::connectives::connected;
 use crate::forms::{Form, condition, operand, put, word};
-use crate::operations::{Part, keep, negated, operation};
+use crate::multiples::{dividend, multiple_divisor};
+use crate::operations::{Part, keep, multiple, negated, operation};
 use expr_constants::constant;
 use expr_phrases::{Connective, opposite};
 use list_denotation::{BinOp, Expr, Words};
 use loop_ir::{Stmt, Stmts, T, W};
 use std::alloc::Global;
-use strm_num::NoMemory;
+use strm_num::{NoMemory, Word};
 
 /// The variables that the statements of an expression may change: its target, and the temporaries
 /// from the first one on.
@@ -96,17 +97,17 @@ fn lower_parts(
             let holds = lower_condition(alloc, a, rows, frame, block)?;
             Ok(Form::Test(opposite(alloc, holds)?))
         }
-        Expr::Bin(op, a, b) => lower_operation(alloc, *op, a, b, rows, frame, block),
+        Expr::Bin(op, a, b) => lower_binary(alloc, *op, a, b, rows, frame, block),
         Expr::And(a, b) => lower_connective(alloc, Connective::And, a, b, rows, frame, block),
         Expr::Or(a, b) => lower_connective(alloc, Connective::Or, a, b, rows, frame, block),
         Expr::If(c, a, b) => lower_choice(alloc, c, a, b, rows, frame, block),
     }
 }
 
-/// Appends the statements of an operation. The right operand has the first temporary as its target.
+/// Appends the statements of a comparison of a remainder with 0, or of any other operation.
 #[cycle(terms)]
-#[tactic(auto, using(crate::proofs::Appends::push_steps))]
-fn lower_operation(
+#[tactic(auto, using(crate::proofs::Appends::push_steps, crate::proofs::MultipleTests::binary_steps))]
+fn lower_binary(
     alloc: Global,
     op: BinOp,
     a: &Expr,
@@ -126,6 +127,77 @@ fn lower_operation(
     ensures form { IfOk result (λ f. form_of f
         ≡ (lowered_parts rows.now (Bin op (term_of a.now) (term_of b.now)) frame.target
         frame.first_temp).form) }
+{
+    if let Some(c) = multiple_divisor(op, a, b) {
+        return lower_multiple(alloc, op, dividend(a), c, rows, frame, block);
+    }
+    if let Some(c) = multiple_divisor(op, b, a) {
+        return lower_multiple(alloc, op, dividend(b), c, rows, frame, block);
+    }
+    lower_operation(alloc, op, a, b, rows, frame, block)
+}
+
+/// Appends the statements of the comparison with 0 of the remainder of `x` by a constant.
+#[cycle(terms)]
+#[tactic(auto, using(crate::proofs::Appends::push_steps))]
+fn lower_multiple(
+    alloc: Global,
+    op: BinOp,
+    x: &Expr,
+    c: Word,
+    rows: &Words,
+    frame: Frame,
+    block: &mut Stmts,
+) -> Result<Form, NoMemory>
+    requires divisor { c ≢ 0 }
+    requires bound { EachLeaf (IsBoundLeaf (length rows.now)) (term_of x.now) }
+    requires variables { EachIndex rows.now (λ i. slice_index rows.now i < 2 ^ 32) }
+    requires few { frame.first_temp + temps_of (term_of x.now) < 2 ^ 32 }
+    ensures block { OnOk result (Appends block.old block.new
+        (lowered_multiple op (term_of x.now) c
+        (lowered_term rows.now (term_of x.now) frame.target frame.first_temp)
+        frame.target).block) }
+    ensures form { IfOk result (λ f. form_of f
+        ≡ (lowered_multiple op (term_of x.now) c
+        (lowered_term rows.now (term_of x.now) frame.target frame.first_temp)
+        frame.target).form) }
+{
+    let form = lower_form(alloc, x, rows, frame, block)?;
+    let part = Part {
+        e: x,
+        form,
+        at: frame.target,
+    };
+    multiple(alloc, op, part, c, block)
+}
+
+/// Appends the statements of an operation. The right operand has the first temporary as its target.
+#[cycle(terms)]
+#[tactic(auto, using(crate::proofs::Appends::push_steps))]
+fn lower_operation(
+    alloc: Global,
+    op: BinOp,
+    a: &Expr,
+    b: &Expr,
+    rows: &Words,
+    frame: Frame,
+    block: &mut Stmts,
+) -> Result<Form, NoMemory>
+    requires bound { EachLeaf (IsBoundLeaf (length rows.now))
+        (Bin op (term_of a.now) (term_of b.now)) }
+    requires variables { EachIndex rows.now (λ i. slice_index rows.now i < 2 ^ 32) }
+    requires few { frame.first_temp + operation_temps op (term_of a.now) (term_of b.now)
+        < 2 ^ 32 }
+    ensures block { OnOk result (Appends block.old block.new
+        (lowered_operation op (term_of a.now) (term_of b.now)
+        (lowered_term rows.now (term_of a.now) frame.target frame.first_temp)
+        (lowered_term rows.now (term_of b.now) frame.first_temp (frame.first_temp + 1))
+        frame.target frame.first_temp).block) }
+    ensures form { IfOk result (λ f. form_of f
+        ≡ (lowered_operation op (term_of a.now) (term_of b.now)
+        (lowered_term rows.now (term_of a.now) frame.target frame.first_temp)
+        (lowered_term rows.now (term_of b.now) frame.first_temp (frame.first_temp + 1))
+        frame.target frame.first_temp).form) }
 {
     let t = frame.first_temp;
     let form = lower_form(alloc, a, rows, frame, block)?;

@@ -1,23 +1,26 @@
 //! The statements of operations, once those of their operands have run.
 
-ghost use Rattle.std.specs.Prelude.{◌≡◌, if◌then◌else◌, IfOk, OnOk};
+ghost use Rattle.std.specs.Prelude.{◌≡◌, ◌≢◌, if◌then◌else◌, IfOk, OnOk};
 ghost use Rattle.list_denotation.specs.Copies.{term_of};
 ghost use Rattle.list_denotation.specs.Typing.{is_division};
 ghost use Rattle.loop_ir.specs.Statements.{Nil};
 ghost use Rattle.loop_ir.specs.StatementCopies.{operand_of};
 ghost use Rattle.expr_constants.specs.Constants.{constant_of};
 ghost use Rattle.expr_constants.specs.Simple.{is_simple};
-ghost use Rattle.expr_lower.specs.Lowering.{InTarget, is_word, operand_rest, operand_in, target_rest, division_operand_in, division_operand_block, lowered_minus, lowered_arithmetic, lowered_comparison, lowered_division, lowered_operation};
+ghost use Rattle.expr_lower.specs.Lowering.{InTarget, is_word, operand_rest, operand_in, target_rest, division_operand_in, division_operand_block, lowered_minus, lowered_arithmetic, lowered_comparison, lowered_division, lowered_operation, lowered_multiple};
 ghost use Rattle.expr_phrases.specs.PhraseCopies.{division_of, Appends};
 ghost use Rattle.expr_lower.specs.FormCopies.{form_of, without_statements, as_operand, kept_form, kept_rest};
 
 use crate::forms::{Form, operand, put};
 use expr_constants::{constant, is_division, is_simple};
-use expr_phrases::{Division, Side, boxed_word, by_divisor, comparison_test, minus, set_truth};
+use expr_phrases::{
+    Division, Side, boxed_word, by_divisor, comparison_test, divides_modulus, magnitude_block,
+    minus, multiple_test, set_truth,
+};
 use list_denotation::{BinOp, Expr};
 use loop_ir::{Stmt, Stmts, W, WOp};
 use std::alloc::Global;
-use strm_num::NoMemory;
+use strm_num::{NoMemory, Word, magnitude};
 
 /// An operand whose statements have run: the expression, where its value is to be found, and its
 /// target.
@@ -211,6 +214,36 @@ fn division(
     let y = division_operand(alloc, right, block)?;
     by_divisor(alloc, d, &x, &y, v, block)?;
     Ok(Form::InTarget)
+}
+
+/// Appends the statements of the comparison with 0 of the remainder of a dividend by the constant `c`,
+/// whose value is a test.
+#[tactic(auto, using(crate::proofs::Appends::push_steps, crate::proofs::MultipleTests::magnitude_positive))]
+pub fn multiple(
+    alloc: Global,
+    op: BinOp,
+    dividend: Part,
+    c: Word,
+    block: &mut Stmts,
+) -> Result<Form, NoMemory>
+    requires { c ≢ 0 }
+    ensures block { OnOk result (Appends block.old block.new
+        (lowered_multiple op (term_of dividend.entry.e.now) c
+        (without_statements (form_of dividend.entry.form)) dividend.entry.at).block) }
+    ensures form { IfOk result (λ made. form_of made
+        ≡ (lowered_multiple op (term_of dividend.entry.e.now) c
+        (without_statements (form_of dividend.entry.form)) dividend.entry.at).form) }
+{
+    let v = dividend.at;
+    let m = magnitude(c);
+    if divides_modulus(m) {
+        let w = operand(alloc, dividend.form, v, block)?;
+        return Ok(Form::Test(multiple_test(alloc, op, w, m)?));
+    }
+    let side = division_operand(alloc, dividend, block)?;
+    magnitude_block(alloc, side.word, v, block)?;
+    let w = boxed_word(alloc, W::Var(v))?;
+    Ok(Form::Test(multiple_test(alloc, op, w, m)?))
 }
 
 /// The operand of a division. What isn't a constant or a name is put into its target first.

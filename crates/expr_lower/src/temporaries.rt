@@ -4,8 +4,9 @@ ghost use Rattle.std.specs.Prelude.{◌≡◌, ◌<◌, ◌^◌};
 ghost use Rattle.list_denotation.specs.Copies.{term_of};
 ghost use Rattle.list_denotation.specs.Typing.{is_division};
 ghost use Rattle.expr_constants.specs.Constants.{constant_of};
-ghost use Rattle.expr_lower.specs.Costs.{is_arithmetic, has_plain_parts, is_plain, is_direct, connected_temps, parts_temps, temps_of};
+ghost use Rattle.expr_lower.specs.Costs.{is_arithmetic, has_plain_parts, is_plain, is_direct, connected_temps, operation_temps, parts_temps, temps_of};
 
+use crate::multiples::{dividend, multiple_divisor};
 use expr_constants::{constant, is_division, is_leaf, is_simple};
 use list_denotation::{BinOp, Expr};
 
@@ -24,7 +25,7 @@ pub fn temps_of(e: &Expr) -> u32
 
 /// Those that the parts of an expression need.
 #[cycle(temps)]
-#[tactic(auto, using(crate::proofs::Costs::kept_few))]
+#[tactic(auto, using(crate::proofs::MultipleTests::binary_temporaries))]
 fn parts_temps(e: &Expr) -> u32
     requires { parts_temps (term_of e.now) < 2 ^ 32 }
     ensures { result ≡ parts_temps (term_of e.now) }
@@ -34,12 +35,13 @@ fn parts_temps(e: &Expr) -> u32
         Expr::Neg(a) => temps_of(a),
         Expr::Not(a) => temps_of(a),
         Expr::Bin(op, a, b) => {
-            let right = if is_direct(*op, b) {
-                0
-            } else {
-                temps_of(b) + 1
-            };
-            temps_of(a).max(right)
+            if let Some(_c) = multiple_divisor(*op, a, b) {
+                return temps_of(dividend(a));
+            }
+            if let Some(_c) = multiple_divisor(*op, b, a) {
+                return temps_of(dividend(b));
+            }
+            operation_temps(*op, a, b)
         }
         Expr::And(a, b) => connected_temps(a, b),
         Expr::Or(a, b) => connected_temps(a, b),
@@ -49,6 +51,17 @@ fn parts_temps(e: &Expr) -> u32
             None => temps_of(c).max(temps_of(a).max(temps_of(b))),
         },
     }
+}
+
+/// Those of an operation: the right operand has one of its own where it is kept.
+#[cycle(temps)]
+#[tactic(auto, using(crate::proofs::Costs::kept_few))]
+fn operation_temps(op: BinOp, a: &Expr, b: &Expr) -> u32
+    requires { operation_temps op (term_of a.now) (term_of b.now) < 2 ^ 32 }
+    ensures { result ≡ operation_temps op (term_of a.now) (term_of b.now) }
+{
+    let right = if is_direct(op, b) { 0 } else { temps_of(b) + 1 };
+    temps_of(a).max(right)
 }
 
 /// Those of `&&` and `||`: a first part that is constant has none.

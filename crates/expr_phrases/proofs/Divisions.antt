@@ -15,7 +15,7 @@ use Rattle.expr_phrases.specs.Results.{result_of, IsKnown, HasValue, Assigns}
 use Rattle.expr_phrases.proofs.Opposites.{minus_value}
 
 -- the division of magnitudes
-abbrev unsigned_result : Division → ℕ → ℕ → ℕ
+abbrev pub unsigned_result : Division → ℕ → ℕ → ℕ
 unsigned_result Quotient x y = x / y
 unsigned_result Remainder x y = x % y
 
@@ -24,14 +24,14 @@ known_divisor zero q ne = absurd (ne refl)
 known_divisor (suc y) q ne = refl
 
 -- the word of a number that isn't negative is its magnitude, and else the word with a minus
-magnitude_same : (x : ℕ) → is_negative x ≡ false → magnitude_of x ≡ x
+pub magnitude_same : (x : ℕ) → is_negative x ≡ false → magnitude_of x ≡ x
 magnitude_same x h = rw (h) refl
 
-magnitude_minus : (x : ℕ) → is_negative x ≡ true → magnitude_of x ≡ negation_of x
+pub magnitude_minus : (x : ℕ) → is_negative x ≡ true → magnitude_of x ≡ negation_of x
 magnitude_minus x h = rw (h) refl
 
 module _ (inputs : List Input) where
-  quotient_value : (d : Division) (wx wy : Operand) (mx my : ℕ) (env : List ℕ) → my ≢ 0 → operand_value inputs wx env ≡ Is mx → operand_value inputs wy env ≡ Is my → operand_value inputs (Bin (division_operator d) wx wy) env ≡ Is (unsigned_result d mx my)
+  pub quotient_value : (d : Division) (wx wy : Operand) (mx my : ℕ) (env : List ℕ) → my ≢ 0 → operand_value inputs wx env ≡ Is mx → operand_value inputs wy env ≡ Is my → operand_value inputs (Bin (division_operator d) wx wy) env ≡ Is (unsigned_result d mx my)
   quotient_value Quotient wx wy mx my env ne hx hy = rw (hx, hy) (known_divisor my (mx / my) ne)
   quotient_value Remainder wx wy mx my env ne hx hy = rw (hx, hy) (known_divisor my (mx % my) ne)
 
@@ -39,7 +39,7 @@ module _ (inputs : List Input) where
   sign_value true w x env h = minus_value inputs w x env h
   sign_value false w x env h = h
 
-  natural_tested : (w : Operand) (x : ℕ) (env : List ℕ) (b : Bool) → operand_value inputs w env ≡ Is x → nat_lt x (2 ^ 63) ≡ b → test_value inputs (Less w (Const (2 ^ 63))) env ≡ Is b
+  pub natural_tested : (w : Operand) (x : ℕ) (env : List ℕ) (b : Bool) → operand_value inputs w env ≡ Is x → nat_lt x (2 ^ 63) ≡ b → test_value inputs (Less w (Const (2 ^ 63))) env ≡ Is b
   natural_tested w x env b h e = rw (h) (ap Is e)
 
   zero_tested : (w : Operand) (x : ℕ) (env : List ℕ) (b : Bool) → operand_value inputs w env ≡ Is x → (x == 0) ≡ b → test_value inputs (Same w (Const 0)) env ≡ Is b
@@ -47,16 +47,16 @@ module _ (inputs : List Input) where
 
   -- ---- statements
 
-  set_assigns : (v : ℕ) (w : Operand) (x : ℕ) (env : List ℕ) → operand_value inputs w env ≡ Is x → Assigns inputs (set v w) v (Is x) env
+  pub set_assigns : (v : ℕ) (w : Operand) (x : ℕ) (env : List ℕ) → operand_value inputs w env ≡ Is x → Assigns inputs (set v w) v (Is x) env
   set_assigns v w x env is = λ left. ap (λ g. then_do (on_value g (λ y. Runs [] (slice_set env v y) left)) (run inputs Nil)) is
 
   -- a choice does what the branch does that is chosen
-  first_assigns : (c : Test) (a b : Block) (v x : ℕ) (env : List ℕ) → test_value inputs c env ≡ Is true → Assigns inputs a v (Is x) env → Assigns inputs (Cons (If c a b) Nil) v (Is x) env
+  pub first_assigns : (c : Test) (a b : Block) (v x : ℕ) (env : List ℕ) → test_value inputs c env ≡ Is true → Assigns inputs a v (Is x) env → Assigns inputs (Cons (If c a b) Nil) v (Is x) env
   first_assigns c a b v x env is h = λ left.
       ap (λ g. then_do (on_test g (run inputs a env left) (run inputs b env left)) (run inputs Nil)) is
       ∙ ap (λ o. then_do o (run inputs Nil)) (h left)
 
-  second_assigns : (c : Test) (a b : Block) (v x : ℕ) (env : List ℕ) → test_value inputs c env ≡ Is false → Assigns inputs b v (Is x) env → Assigns inputs (Cons (If c a b) Nil) v (Is x) env
+  pub second_assigns : (c : Test) (a b : Block) (v x : ℕ) (env : List ℕ) → test_value inputs c env ≡ Is false → Assigns inputs b v (Is x) env → Assigns inputs (Cons (If c a b) Nil) v (Is x) env
   second_assigns c a b v x env is h = λ left.
       ap (λ g. then_do (on_test g (run inputs a env left) (run inputs b env left)) (run inputs Nil)) is
       ∙ ap (λ o. then_do o (run inputs Nil)) (h left)

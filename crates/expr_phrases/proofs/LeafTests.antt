@@ -10,9 +10,10 @@ use Rattle.list_denotation.specs.declared.expr.BinOp.TheVariants as sign
 use Rattle.loop_ir.specs.Leaves.{operand_leaves, test_leaves, block_leaves}
 use Rattle.loop_ir.specs.Statements.{Operand, Const, Var, Len, Int, Bin, Test, Less, Same, Both, Either, Not, If, Ret, Block, Nil, Cons}
 use Rattle.loop_ir.specs.declared.syntax.Verdict.TheVariants as verdict
+use Rattle.loop_ir.specs.declared.syntax.WOp.TheVariants as op
 use Rattle.expr_constants.specs.Constants.{IsWordConstant}
 use Rattle.expr_phrases.specs.Laws.{Laws}
-use Rattle.expr_phrases.specs.Phrases.{Division, set, minus, opposite, is_zero, is_natural, flipped_sign, signed_less, comparison_test, division_operator, result_negative, with_minus, divided_magnitudes, by_dividend, by_divisor}
+use Rattle.expr_phrases.specs.Phrases.{Division, set, minus, opposite, is_zero, is_natural, flipped_sign, signed_less, comparison_test, division_operator, result_negative, with_minus, divided_magnitudes, by_dividend, by_divisor, is_variable, magnitude_block, multiple_test}
 
 module _ (passes : Operand → Bool) where
   abbrev InOperand : Operand → Type 0
@@ -107,3 +108,17 @@ module _ (passes : Operand → Bool) where
           (both y (Const 0) k zero_passes) refl refl
           (if_leaves (Less y (Const (2 ^ 63))) (by_dividend d m x y false v) (by_dividend d m x (minus y) true v) Nil
           (natural_leaves y k) (dividend_leaves d m x y false v first at h k) (dividend_leaves d m x (minus y) true v first at h (minus_leaves y k)) refl)
+
+      -- ---- multiples
+
+      pub multiple_leaves : (o : BinOp) (w : Operand) (c : ℕ) → IsWord c → InOperand w → InTest (multiple_test o w (magnitude_of c))
+      multiple_leaves o w c word h =
+          comparison_leaves o (Bin op.Rem w (Const (magnitude_of c))) (Const 0) (both w (Const (magnitude_of c)) h (magnitude_passes c word)) zero_passes
+
+    pub magnitude_leaves : (w : Operand) (v : ℕ) → IsTrue (passes (Var v)) → InOperand w → InBlock (magnitude_block w v)
+    magnitude_leaves w v at h =
+        if_leaves (is_natural w) (if is_variable v w then Nil else set v w) (set v (minus w)) Nil (natural_leaves w h) (kept_leaves (is_variable v w)) (set_leaves v (minus w) at (minus_leaves w h)) refl
+      where
+        kept_leaves : (same : Bool) → InBlock (if same then Nil else set v w)
+        kept_leaves true = refl
+        kept_leaves false = set_leaves v w at h

@@ -1,13 +1,13 @@
 -- The phrases of the C text: of signed arithmetic, and of `&&` and `||`.
-use Rattle.std.specs.Prelude.{ℕ, zero, suc, ◌^◌, Bool, true, false, if◌then◌else◌, ◌==◌, Option, Some, None}
-use Rattle.strm_num.specs.Words.{sum_of}
+use Rattle.std.specs.Prelude.{ℕ, zero, suc, ◌%◌, ◌^◌, Bool, true, false, if◌then◌else◌, ◌==◌, Option, Some, None}
+use Rattle.strm_num.specs.Words.{sum_of, negation_of}
 use Rattle.strm_num.specs.Magnitudes.{is_negative, magnitude_of, xor}
 use Rattle.list_denotation.specs.declared.expr.BinOp.{BinOp}
 use Rattle.list_denotation.specs.declared.expr.BinOp.TheVariants as sign
 use Rattle.loop_ir.specs.declared.syntax.WOp.{WOp}
 use Rattle.loop_ir.specs.declared.syntax.WOp.TheVariants as op
 use Rattle.loop_ir.specs.declared.syntax.Verdict.TheVariants as verdict
-use Rattle.loop_ir.specs.Statements.{Operand, Const, Bin, Test, Less, Same, Both, Either, Not, Set, If, Ret, Block, Nil, Cons}
+use Rattle.loop_ir.specs.Statements.{Operand, Const, Var, Bin, Test, Less, Same, Both, Either, Not, Set, If, Ret, Block, Nil, Cons}
 
 -- one assignment
 abbrev pub set : ℕ → Operand → Block
@@ -104,6 +104,24 @@ by_divisor d dividend None x y v =
     (by_dividend d dividend x y false v)
     (by_dividend d dividend x (minus y) true v))
     Nil)
+
+-- ---- whether a signed remainder is 0, which needs no sign: it is where that of the magnitudes is
+
+-- whether m divides 2 ^ 64, as the powers of two do: then it divides a word and its negation together
+abbrev pub divides_modulus : ℕ → Bool
+divides_modulus m = negation_of m % m == 0
+
+abbrev pub is_variable : ℕ → Operand → Bool
+is_variable v (Var u) = u == v
+is_variable v _ = false
+
+-- the magnitude of the signed value of w in the variable v, in which w may stand itself
+abbrev pub magnitude_block : Operand → ℕ → Block
+magnitude_block w v = Cons (If (is_natural w) (if is_variable v w then Nil else set v w) (set v (minus w))) Nil
+
+-- whether the word is a multiple of m, or isn't one
+abbrev pub multiple_test : BinOp → Operand → ℕ → Test
+multiple_test o w m = comparison_test o (Bin op.Rem w (Const m)) (Const 0)
 
 -- ---- `&&` and `||`, which look at their second part only where the first one doesn't decide
 

@@ -1,5 +1,5 @@
 -- What the phrases come to.
-use Rattle.std.specs.Prelude.{◌≡◌, ℕ, Bool, not, ◌==◌, List, [], Option, Some, None, slice_set}
+use Rattle.std.specs.Prelude.{◌≡◌, ℕ, Bool, true, false, not, ◌==◌, List, [], Option, Some, None, slice_set}
 use Rattle.strm_num.specs.Words.{IsWord, quotient_of, remainder_of, is_less}
 use Rattle.list_denotation.specs.declared.expr.BinOp.{BinOp}
 use Rattle.list_denotation.specs.declared.expr.BinOp.TheVariants.{Eq, Ne, Lt, Le, Gt, Ge}
@@ -18,6 +18,12 @@ comparison_truth Le x y = not (is_less y x)
 comparison_truth Gt x y = is_less y x
 comparison_truth Ge x y = not (is_less x y)
 comparison_truth _ x y = x == y
+
+-- whether the operator compares for equality alone
+abbrev pub is_equality : BinOp → Bool
+is_equality Eq = true
+is_equality Ne = true
+is_equality _ = false
 
 -- the quotient or the remainder of the signed values. It is asked for only where the divisor isn't 0
 abbrev pub result_of : Division → ℕ → ℕ → ℕ

@@ -1,7 +1,8 @@
 //! Laws of the definitions. These functions do nothing: their contracts are the laws.
 
-ghost use Rattle.std.specs.Prelude.{◌≡◌, ◌≤◌, ℕ, Bool, not, List, Option, IsTrue};
-ghost use Rattle.strm_num.specs.Words.{IsWord, negation_of};
+ghost use Rattle.std.specs.Prelude.{◌≡◌, ◌≢◌, ◌≤◌, ℕ, Bool, not, List, Option, IsTrue};
+ghost use Rattle.strm_num.specs.Words.{IsWord, negation_of, remainder_of};
+ghost use Rattle.strm_num.specs.Magnitudes.{magnitude_of};
 ghost use Rattle.list_denotation.specs.declared.expr.BinOp.{BinOp};
 ghost use Rattle.list_denotation.specs.declared.input.Input.{Input};
 ghost use Rattle.list_denotation.specs.Values.{Trap, Is, unless_zero};
@@ -11,8 +12,8 @@ ghost use Rattle.loop_ir.specs.Meaning.{operand_value, test_value};
 ghost use Rattle.loop_ir.specs.Statements.{Operand, Const, Var, Test};
 ghost use Rattle.expr_constants.specs.Constants.{IsWordConstant};
 ghost use Rattle.expr_phrases.specs.Laws.{Laws};
-ghost use Rattle.expr_phrases.specs.Phrases.{Division, minus, opposite, comparison_test, by_divisor};
-ghost use Rattle.expr_phrases.specs.Results.{comparison_truth, result_of, HasValue, Assigns};
+ghost use Rattle.expr_phrases.specs.Phrases.{Division, minus, opposite, comparison_test, by_divisor, divides_modulus, magnitude_block, multiple_test};
+ghost use Rattle.expr_phrases.specs.Results.{comparison_truth, is_equality, result_of, HasValue, Assigns};
 
 use strm_num::{signed_division_divides_magnitudes, signed_order_flips_sign_bits};
 
@@ -72,6 +73,39 @@ pub fn divisions_assign_signed_results()
         → block_count (by_divisor d m n a b v) ≤ 9 }
     ensures no_loops { (d : Division) (m n : Option ℕ) (a b : Operand) (v : ℕ)
         → block_loops (by_divisor d m n a b v) ≡ 0 }
+{
+    laws_below();
+}
+
+/// The remainder of a signed value by a constant is 0 where that of the magnitudes is, and where the
+/// constant's magnitude divides 2^64 also where that of the word itself is: this is what the test of
+/// a multiple tells. The statement of a magnitude puts it, which is a word, into the variable v, and
+/// changes nothing else; it counts 3 at most, with no loop. Both name what the operand names, and v, and their
+/// constants are words if those of the operand are.
+pub fn zero_remainders_need_no_sign()
+    ensures words { (x : ℕ) → IsWord x → IsWord (magnitude_of x) }
+    ensures magnitudes { (inputs : List Input) (w : Operand) (x v : ℕ) (env : List ℕ)
+        → operand_value inputs w env ≡ Is x
+        → Assigns inputs (magnitude_block w v) v (Is (magnitude_of x)) env }
+    ensures of_magnitude { (inputs : List Input) (o : BinOp) (w : Operand) (x c : ℕ) (env : List ℕ)
+        → IsTrue (is_equality o) → IsWord x → IsWord c → c ≢ 0
+        → operand_value inputs w env ≡ Is (magnitude_of x)
+        → test_value inputs (multiple_test o w (magnitude_of c)) env
+        ≡ Is (comparison_truth o (remainder_of x c) 0) }
+    ensures of_word { (inputs : List Input) (o : BinOp) (w : Operand) (x c : ℕ) (env : List ℕ)
+        → IsTrue (is_equality o) → IsWord x → IsWord c → c ≢ 0
+        → IsTrue (divides_modulus (magnitude_of c)) → operand_value inputs w env ≡ Is x
+        → test_value inputs (multiple_test o w (magnitude_of c)) env
+        ≡ Is (comparison_truth o (remainder_of x c) 0) }
+    ensures block_leaves { (passes : Operand → Bool) (w : Operand) (v : ℕ)
+        → ((c : ℕ) → IsWord c → IsTrue (passes (Const c))) → IsTrue (passes (Var v))
+        → IsTrue (operand_leaves passes w) → IsTrue (block_leaves passes (magnitude_block w v)) }
+    ensures test_leaves { (passes : Operand → Bool) (o : BinOp) (w : Operand) (c : ℕ)
+        → ((c : ℕ) → IsWord c → IsTrue (passes (Const c))) → IsWord c
+        → IsTrue (operand_leaves passes w)
+        → IsTrue (test_leaves passes (multiple_test o w (magnitude_of c))) }
+    ensures few { (w : Operand) (v : ℕ) → block_count (magnitude_block w v) ≤ 3 }
+    ensures no_loops { (w : Operand) (v : ℕ) → block_loops (magnitude_block w v) ≡ 0 }
 {
     laws_below();
 }

@@ -14,4 +14,12 @@ returns c = record {
   division_leaves = c.divisions_assign_signed_results.ensures.leaves;
   division_few = c.divisions_assign_signed_results.ensures.few;
   division_loops = c.divisions_assign_signed_results.ensures.no_loops;
+  magnitude_word = c.zero_remainders_need_no_sign.ensures.words;
+  magnitude_assigns = c.zero_remainders_need_no_sign.ensures.magnitudes;
+  multiple_of_magnitude = c.zero_remainders_need_no_sign.ensures.of_magnitude;
+  multiple_of_word = c.zero_remainders_need_no_sign.ensures.of_word;
+  magnitude_leaves = c.zero_remainders_need_no_sign.ensures.block_leaves;
+  multiple_leaves = c.zero_remainders_need_no_sign.ensures.test_leaves;
+  magnitude_few = c.zero_remainders_need_no_sign.ensures.few;
+  magnitude_loops = c.zero_remainders_need_no_sign.ensures.no_loops;
 }

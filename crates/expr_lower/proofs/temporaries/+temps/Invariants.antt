@@ -12,3 +12,6 @@ decreases-parts_temps l = 3 * term_depth (term_of l.e.now)
 
 abbrev pub decreases-connected_temps : goal.decreases-connected_temps
 decreases-connected_temps l = 3 * max (term_depth (term_of l.a.now)) (term_depth (term_of l.b.now)) + 2
+
+abbrev pub decreases-operation_temps : goal.decreases-operation_temps
+decreases-operation_temps l = 3 * max (term_depth (term_of l.a.now)) (term_depth (term_of l.b.now)) + 2
