@@ -5,9 +5,10 @@ use Rattle.list_denotation.specs.declared.expr.BinOp.{BinOp}
 use Rattle.list_denotation.specs.Terms as term
 use Rattle.list_denotation.specs.Terms.{Term}
 use Rattle.loop_ir.specs.Statements.{Block, join}
-use Rattle.expr_lower.specs.Lowering.{Form, lowered_minus, lowered_operation, lowered_multiple, lowered_parts, lowered_term}
+use Rattle.expr_forms.specs.Forms.{Form, lowered_minus, lowered_operation, lowered_multiple}
+use Rattle.expr_lower.specs.Lowering.{lowered_parts, lowered_term}
 use Rattle.expr_lower.specs.Costs.{operation_temps, temps_of}
-use Rattle.expr_lower.specs.FormCopies.{without_statements, kept_form, kept_rest}
+use Rattle.expr_forms.specs.FormCopies.{without_statements, kept_form, kept_rest}
 use Rattle.loop_ir.proofs.Copies.{join_join}
 use Rattle.expr_lower.proofs.OperationParts.{word_bare, simple_bare, multiple_block, lowered_short, minus_block, operation_block, operation_form, next_temp, right_fits, at_next}
 

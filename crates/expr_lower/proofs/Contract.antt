@@ -14,7 +14,7 @@ use Rattle.loop_ir.proofs.JoinedBlocks.{names_joined, words_joined}
 use Rattle.state_alloc.specs.Layouts.{IsLaidOut}
 use Rattle.expr_lower.specs.Contract.{Scope, top_of, value_block, condition_block, condition_test, operand_statements, operand_word, IsLowerable, GivesValue, GivesTruth, GivesWord, MayUse, NamesOnly, TestNamesOnly, WordNamesOnly, PutsValue, TellsTruth, YieldsWord, StandsFor}
 use Rattle.expr_lower.specs.Costs.{is_plain, temps_of}
-use Rattle.expr_lower.specs.Lowering.{operand_block, operand_in, into}
+use Rattle.expr_forms.specs.Forms.{operand_block, operand_in, into}
 use Rattle.expr_lower.specs.PlainWords.{plain_word}
 use Rattle.expr_lower.specs.Laws.{Laws}
 use Rattle.expr_lower.specs.Scopes.{EachLeaf, IsWordLeaf, WordsInPlace, MayNameLeaf, MayNameWords}

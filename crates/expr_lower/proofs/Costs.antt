@@ -13,7 +13,8 @@ use Rattle.loop_ir.specs.Counts.{block_count, block_loops}
 use Rattle.expr_phrases.specs.Phrases.{Division, set, set_truth, by_divisor, Connective, Conjunction, Disjunction, connected_test, connected_block, divides_modulus, magnitude_block, multiple_test}
 use Rattle.expr_constants.specs.Constants.{by_constant, constant_of}
 use Rattle.expr_constants.specs.Simple.{is_simple}
-use Rattle.expr_lower.specs.Lowering.{Form, AWord, ATest, InTarget, Lowered, is_word, operand_rest, operand_block, target_rest, into, as_word, in_target, lowered_minus, lowered_arithmetic, lowered_comparison, division_operand_block, division_operand_in, operand_in, lowered_division, lowered_operation, lowered_multiple, lowered_binary, condition_in, condition_of, is_empty, lowered_connective, lowered_connected, lowered_chosen, folded, lowered_parts, lowered_dividend, lowered_term, lowered_into, lowered_test}
+use Rattle.expr_forms.specs.Forms.{Form, AWord, ATest, InTarget, Lowered, is_word, operand_rest, operand_block, target_rest, into, as_word, in_target, lowered_minus, lowered_arithmetic, lowered_comparison, division_operand_block, division_operand_in, operand_in, lowered_division, lowered_operation, lowered_multiple, condition_in, condition_of, is_empty, lowered_connective, lowered_connected, lowered_chosen}
+use Rattle.expr_lower.specs.Lowering.{lowered_binary, folded, lowered_parts, lowered_dividend, lowered_term, lowered_into, lowered_test}
 use Rattle.expr_lower.specs.Laws.{Laws}
 use Rattle.expr_lower.specs.Costs.{operation_cost, cost, is_direct, unless_constant, binary_temps, connected_temps, chosen_temps, operation_temps, parts_temps, dividend_temps, temps_of}
 use Rattle.expr_lower.specs.Multiples.{divisor_of, dividend_of, multiple_divisor}

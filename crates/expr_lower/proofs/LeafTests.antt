@@ -18,7 +18,8 @@ use Rattle.expr_phrases.specs.Results.{is_equality}
 use Rattle.expr_phrases.specs.Phrases.{Division, Quotient, Remainder, set, minus, set_truth, by_divisor, Connective, Conjunction, Disjunction, connected_test, connected_block, divides_modulus, magnitude_block}
 use Rattle.expr_constants.specs.Constants.{by_constant, constant_of, IsWordConstant}
 use Rattle.expr_constants.specs.Simple.{is_simple}
-use Rattle.expr_lower.specs.Lowering.{Form, AWord, ATest, InTarget, Lowered, Condition, condition_of, is_word, operand_rest, operand_block, operand_in, condition_in, target_rest, into, as_word, in_target, lowered_minus, lowered_not, lowered_arithmetic, lowered_comparison, division_operand_block, division_operand_in, lowered_division, lowered_operation, lowered_multiple, is_empty, connective_rest, lowered_connective, lowered_connected, lowered_choice, lowered_chosen, folded, lowered_parts, lowered_dividend, lowered_term, lowered_into}
+use Rattle.expr_forms.specs.Forms.{Form, AWord, ATest, InTarget, Lowered, Condition, condition_of, is_word, operand_rest, operand_block, operand_in, condition_in, target_rest, into, as_word, in_target, lowered_minus, lowered_not, lowered_arithmetic, lowered_comparison, division_operand_block, division_operand_in, lowered_division, lowered_operation, lowered_multiple, is_empty, connective_rest, lowered_connective, lowered_connected, lowered_choice, lowered_chosen}
+use Rattle.expr_lower.specs.Lowering.{folded, lowered_parts, lowered_dividend, lowered_term, lowered_into}
 use Rattle.expr_lower.specs.Costs.{is_arithmetic, chosen_plain, has_plain_parts, is_plain, is_direct, unless_constant, binary_temps, connected_temps, chosen_temps, operation_temps, parts_temps, dividend_temps, temps_of}
 use Rattle.expr_lower.specs.Multiples.{dividend_of, multiple_divisor}
 use Rattle.expr_lower.specs.Laws.{Laws}

@@ -19,7 +19,8 @@ use Rattle.expr_lower.specs.Contract.{is_true, Kept, GoesOn, ComesTo, IsIn}
 use Rattle.expr_phrases.specs.Phrases.{Division, Quotient, Remainder, set, minus, set_truth, opposite, comparison_test, by_divisor, Connective, Conjunction, Disjunction, connected_test, connected_block, divides_modulus, magnitude_block, multiple_test}
 use Rattle.expr_constants.specs.Constants.{by_constant, conjunction_constant, disjunction_constant, constant_of}
 use Rattle.expr_constants.specs.Simple.{is_simple}
-use Rattle.expr_lower.specs.Lowering.{Lowered, Form, AWord, ATest, InTarget, is_word, as_word, in_target, operand_block, operand_in, condition_in, into, division_operand_block, division_operand_in, lowered_minus, lowered_arithmetic, lowered_comparison, lowered_division, lowered_operation, lowered_multiple, is_empty, connective_form, lowered_connective, lowered_connected, lowered_choice, lowered_chosen, folded, lowered_parts, lowered_dividend, lowered_term, lowered_test}
+use Rattle.expr_forms.specs.Forms.{Lowered, Form, AWord, ATest, InTarget, is_word, as_word, in_target, operand_block, operand_in, condition_in, into, division_operand_block, division_operand_in, lowered_minus, lowered_arithmetic, lowered_comparison, lowered_division, lowered_operation, lowered_multiple, is_empty, connective_form, lowered_connective, lowered_connected, lowered_choice, lowered_chosen}
+use Rattle.expr_lower.specs.Lowering.{folded, lowered_parts, lowered_dividend, lowered_term, lowered_test}
 use Rattle.expr_lower.specs.Costs.{has_plain_parts, is_plain, is_direct, unless_constant, binary_temps, connected_temps, chosen_temps, operation_temps, parts_temps, dividend_temps, temps_of}
 use Rattle.expr_lower.specs.Multiples.{divisor_of, dividend_of, multiple_divisor}
 use Rattle.expr_lower.specs.Laws.{Laws}

@@ -1,10 +1,9 @@
 -- Comparisons of a remainder with 0: what is known of the remainder, of its dividend and of its divisor.
-use Rattle.std.proofs.Common.{◌≡◌, ◌≢◌, ℕ, zero, suc, ◌+◌, ◌<◌, ◌≤◌, ◌^◌, Bool, true, false, ◌&&◌, List, Option, Some, None, refl, sym, ap, ◌∙◌, subst, arith}
+use Rattle.std.proofs.Common.{◌≡◌, ◌≢◌, ℕ, zero, suc, ◌+◌, ◌≤◌, Bool, true, false, ◌&&◌, List, Option, Some, None, refl, sym, ap, ◌∙◌, subst, arith}
 use Rattle.std.specs.Prelude.{IsTrue, if◌then◌else◌, not, ◌==◌}
 use Rattle.std.proofs.Math.Dec.{eqb-zero-suc, eqb-suc-zero}
 use Rattle.strm_num.proofs.Truths.{both_true}
 use Rattle.strm_num.specs.Words.{IsWord, remainder_of, truth_of}
-use Rattle.strm_num.specs.Magnitudes.{magnitude_of}
 use Rattle.list_denotation.specs.declared.expr.BinOp.{BinOp}
 use Rattle.list_denotation.specs.declared.expr.BinOp.TheVariants as sign
 use Rattle.list_denotation.specs.declared.input.Input.{Input}
@@ -16,13 +15,11 @@ use Rattle.expr_constants.specs.Constants.{by_constant, constant_of, IsWordConst
 use Rattle.expr_phrases.specs.Results.{comparison_truth, is_equality}
 use Rattle.expr_lower.specs.Costs.{is_arithmetic, binary_temps, operation_temps, parts_temps, dividend_temps, temps_of}
 use Rattle.expr_lower.specs.Laws.{Laws}
-use Rattle.expr_lower.specs.Lowering.{Lowered, lowered_operation, lowered_multiple, lowered_binary, lowered_parts, lowered_dividend, lowered_term}
+use Rattle.expr_forms.specs.Forms.{Lowered, lowered_operation, lowered_multiple}
+use Rattle.expr_lower.specs.Lowering.{lowered_binary, lowered_parts, lowered_dividend, lowered_term}
 use Rattle.expr_lower.specs.Multiples.{is_remainder, is_zero_constant, nonzero_constant, divisor_of, dividend_of, multiple_divisor}
 use Rattle.expr_lower.specs.Scopes.{EachLeaf, IsWordLeaf}
 use Rattle.expr_lower.proofs.Leaves.{leaves_word}
-
-pub magnitude_positive : (c : ℕ) → c < 2 ^ 64 → c ≢ 0 → magnitude_of c ≢ 0
-magnitude_positive c word h = grind arith
 
 -- ---- where a remainder is compared with 0
 

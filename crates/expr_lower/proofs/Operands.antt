@@ -9,7 +9,8 @@ use Rattle.expr_phrases.specs.Results.{IsKnown, HasValue}
 use Rattle.expr_lower.specs.Contract.{Kept, GoesOn, ComesTo, IsIn}
 use Rattle.expr_constants.specs.Constants.{constant_of}
 use Rattle.expr_constants.specs.Simple.{is_simple}
-use Rattle.expr_lower.specs.Lowering.{Lowered, as_word, operand_block, operand_in, division_operand_block, division_operand_in, into, lowered_term}
+use Rattle.expr_forms.specs.Forms.{Lowered, as_word, operand_block, operand_in, division_operand_block, division_operand_in, into}
+use Rattle.expr_lower.specs.Lowering.{lowered_term}
 use Rattle.expr_lower.specs.Costs.{is_plain, temps_of}
 use Rattle.expr_lower.specs.Laws.{Laws}
 use Rattle.expr_lower.specs.PlainWords.{plain_word}

@@ -13,10 +13,11 @@ use Rattle.loop_ir.specs.Statements.{Operand, Var, Block, Nil, join}
 use Rattle.expr_phrases.specs.Phrases.{Division, Quotient, Remainder, minus, set, by_divisor, divides_modulus, magnitude_block}
 use Rattle.expr_constants.specs.Constants.{constant_of}
 use Rattle.expr_constants.specs.Simple.{is_simple}
-use Rattle.expr_lower.specs.Lowering.{Form, AWord, ATest, InTarget, is_word, as_word, in_target, operand_rest, operand_in, target_rest, lowered_minus, lowered_arithmetic, lowered_comparison, lowered_division, lowered_operation, lowered_multiple, lowered_term}
+use Rattle.expr_forms.specs.Forms.{Form, AWord, ATest, InTarget, is_word, as_word, in_target, operand_rest, operand_in, target_rest, lowered_minus, lowered_arithmetic, lowered_comparison, lowered_division, lowered_operation, lowered_multiple}
+use Rattle.expr_lower.specs.Lowering.{lowered_term}
 use Rattle.strm_num.proofs.Truths.{both_true}
 use Rattle.expr_lower.specs.Costs.{is_arithmetic, chosen_plain, has_plain_parts, is_plain, is_direct, unless_constant, chosen_temps, operation_temps, parts_temps, temps_of}
-use Rattle.expr_lower.specs.FormCopies.{after_statements, without_statements, as_operand, kept_form, kept_rest}
+use Rattle.expr_forms.specs.FormCopies.{after_statements, without_statements, as_operand, kept_form, kept_rest}
 use Rattle.loop_ir.proofs.Copies.{join_join}
 use Rattle.expr_lower.proofs.Plain.{plain_form, simple_plain}
 use Rattle.expr_lower.proofs.PlainValues.{plain_lowered}

@@ -8,7 +8,8 @@ use Rattle.loop_ir.specs.Statements.{Operand, Test, Block}
 use Rattle.expr_constants.specs.Constants.{by_constant, constant_of}
 use Rattle.expr_constants.specs.Simple.{is_leaf, is_simple}
 use Rattle.expr_phrases.specs.Phrases.{Connective, Conjunction, Disjunction}
-use Rattle.expr_lower.specs.Lowering.{Lowered, Condition, ATest, InTarget, is_word, as_word, in_target, lowered_operation, lowered_multiple, lowered_binary, is_empty, lowered_connected, lowered_chosen, folded, lowered_parts, lowered_dividend, lowered_term}
+use Rattle.expr_forms.specs.Forms.{Lowered, Condition, ATest, InTarget, is_word, as_word, in_target, lowered_operation, lowered_multiple, is_empty, lowered_connected, lowered_chosen}
+use Rattle.expr_lower.specs.Lowering.{lowered_binary, folded, lowered_parts, lowered_dividend, lowered_term}
 use Rattle.expr_lower.specs.Multiples.{dividend_of, multiple_divisor}
 use Rattle.expr_lower.specs.Costs.{is_arithmetic, chosen_plain, has_plain_parts, is_plain}
 

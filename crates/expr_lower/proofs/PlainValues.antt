@@ -16,7 +16,8 @@ use Rattle.loop_ir.specs.Meaning.{operand_value, word_operation}
 use Rattle.expr_constants.specs.Constants.{by_constant, constant_of}
 use Rattle.expr_phrases.specs.Phrases.{Quotient, Remainder}
 use Rattle.expr_lower.specs.Laws.{Laws}
-use Rattle.expr_lower.specs.Lowering.{Lowered, Condition, as_word, lowered_minus, lowered_operation, lowered_chosen, folded, lowered_parts, lowered_dividend, lowered_term}
+use Rattle.expr_forms.specs.Forms.{Lowered, Condition, as_word, lowered_minus, lowered_operation, lowered_chosen}
+use Rattle.expr_lower.specs.Lowering.{folded, lowered_parts, lowered_dividend, lowered_term}
 use Rattle.expr_lower.specs.Costs.{is_arithmetic, chosen_plain, has_plain_parts, is_plain}
 use Rattle.expr_lower.specs.PlainWords.{folded_word, arithmetic_operator, parts_word, plain_word}
 use Rattle.expr_lower.specs.Scopes.{EachLeaf, IsWordLeaf, WordsInPlace}

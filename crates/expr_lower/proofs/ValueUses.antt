@@ -11,7 +11,7 @@ use Rattle.loop_ir.specs.Statements.{Operand, Const, Var, Test, Same, Not, Block
 use Rattle.loop_ir.specs.Meaning.{operand_value, test_value}
 use Rattle.expr_lower.specs.Contract.{is_true, Kept, ComesTo, GoesOn, IsIn}
 use Rattle.expr_phrases.specs.Phrases.{set, set_truth}
-use Rattle.expr_lower.specs.Lowering.{Form, AWord, ATest, InTarget, operand_rest, operand_in, condition_in, target_rest}
+use Rattle.expr_forms.specs.Forms.{Form, AWord, ATest, InTarget, operand_rest, operand_in, condition_in, target_rest}
 use Rattle.expr_lower.specs.Scopes.{IsLeafInPlace, WordsInPlace}
 use Rattle.expr_lower.proofs.Disjointness.{IsDisjointLeaf, IsDisjoint}
 use Rattle.expr_lower.proofs.Leaves.{both_leaves}

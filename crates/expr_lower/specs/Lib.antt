@@ -3,6 +3,5 @@ pub mod Lowering
 pub mod Costs
 pub mod PlainWords
 pub mod Scopes
-pub mod FormCopies
 pub mod Contract
 pub mod Laws

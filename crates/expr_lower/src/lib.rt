@@ -1,7 +1,7 @@
 //! Expressions as statements of loop programs.
 //!
-//! It depends on list_denotation, loop_ir, state_alloc and expr_phrases, whose phrases signed
-//! arithmetic is printed as. `specs/Lowering` says which statements an expression becomes, on plain
+//! It depends on list_denotation, loop_ir, state_alloc, expr_constants and expr_forms, whose forms the
+//! statements are put together from. `specs/Lowering` says which statements an expression becomes, on plain
 //! copies. `lower` and `lower_into` carry the promise: their statements put the expression's value
 //! into a target variable, or return 1 exactly where it traps; they have no loop, change nothing
 //! else but temporaries, name nothing but what the expression names, and are at most as many as its
@@ -11,12 +11,9 @@
 //! more laws bound the cost by the nodes and the temporaries by the depth.
 #![tactic(auto)]
 
-mod connectives;
-mod forms;
 mod laws;
 mod lowering;
 mod multiples;
-mod operations;
 mod statements;
 mod temporaries;
 

@@ -4,18 +4,19 @@ ghost use Rattle.std.specs.Prelude.{◌≡◌, ◌≢◌, ℕ, ◌+◌, ◌<◌,
 ghost use Rattle.list_denotation.specs.Copies.{term_of};
 ghost use Rattle.list_denotation.specs.Terms.{Bin};
 ghost use Rattle.loop_ir.specs.StatementCopies.{operand_of, test_of};
-ghost use Rattle.expr_lower.specs.Lowering.{operand_block, operand_in, lowered_connected, lowered_choice, lowered_chosen, lowered_operation, lowered_multiple, lowered_parts, lowered_term, lowered_into, lowered_test};
+ghost use Rattle.expr_forms.specs.Forms.{operand_block, operand_in, lowered_connected, lowered_choice, lowered_chosen, lowered_operation, lowered_multiple};
+ghost use Rattle.expr_lower.specs.Lowering.{lowered_parts, lowered_term, lowered_into, lowered_test};
 ghost use Rattle.expr_constants.specs.Constants.{constant_of};
 ghost use Rattle.expr_lower.specs.Costs.{connected_temps, chosen_temps, operation_temps, parts_temps, temps_of};
 ghost use Rattle.expr_lower.specs.Scopes.{EachLeaf, IsWordLeaf, IsBoundLeaf};
 ghost use Rattle.expr_phrases.specs.PhraseCopies.{connective_of, Appends};
-ghost use Rattle.expr_lower.specs.FormCopies.{form_of};
+ghost use Rattle.expr_forms.specs.FormCopies.{form_of};
 
-use crate::connectives::connected;
-use crate::forms::{Form, condition, operand, put, word};
 use crate::multiples::{dividend, multiple_divisor};
-use crate::operations::{Part, keep, multiple, negated, operation};
 use expr_constants::constant;
+use expr_forms::{
+    Form, Part, condition, connected, keep, multiple, negated, operand, operation, put, word,
+};
 use expr_phrases::{Connective, opposite};
 use list_denotation::{BinOp, Expr, Words};
 use loop_ir::{Stmt, Stmts, T, W};

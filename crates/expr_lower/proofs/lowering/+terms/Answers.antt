@@ -4,7 +4,7 @@ use Rattle.std.proofs.lemmas.Result.{on_ok_weaker, IfOk-weaker}
 use Rattle.list_denotation.specs.Copies.{term_of}
 use Rattle.list_denotation.specs.Terms as term
 use Rattle.expr_lower.specs.Costs.{parts_temps, temps_of}
-use Rattle.expr_lower.specs.FormCopies.{form_of}
+use Rattle.expr_forms.specs.FormCopies.{form_of}
 use Rattle.expr_lower.specs.Multiples.{multiple_divisor}
 use Rattle.expr_lower.specs.Scopes.{EachLeaf, IsBoundLeaf}
 use Rattle.expr_lower.proofs.MultipleTests.{first_temps, second_temps, multiple_not_zero, dividend_leaves}

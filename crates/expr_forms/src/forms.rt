@@ -2,9 +2,9 @@
 
 ghost use Rattle.std.specs.Prelude.{◌≡◌, IfOk, OnOk};
 ghost use Rattle.loop_ir.specs.StatementCopies.{operand_of, test_of};
-ghost use Rattle.expr_lower.specs.Lowering.{AWord, operand_rest, operand_in, condition_in, target_rest};
+ghost use Rattle.expr_forms.specs.Forms.{AWord, operand_rest, operand_in, condition_in, target_rest};
 ghost use Rattle.expr_phrases.specs.PhraseCopies.{Appends};
-ghost use Rattle.expr_lower.specs.FormCopies.{form_of};
+ghost use Rattle.expr_forms.specs.FormCopies.{form_of};
 
 use expr_phrases::{boxed_word, is_not_zero, set_truth};
 use loop_ir::{Stmt, Stmts, T, W};

@@ -7,9 +7,9 @@ ghost use Rattle.loop_ir.specs.Statements.{Nil};
 ghost use Rattle.loop_ir.specs.StatementCopies.{operand_of};
 ghost use Rattle.expr_constants.specs.Constants.{constant_of};
 ghost use Rattle.expr_constants.specs.Simple.{is_simple};
-ghost use Rattle.expr_lower.specs.Lowering.{InTarget, is_word, operand_rest, operand_in, target_rest, division_operand_in, division_operand_block, lowered_minus, lowered_arithmetic, lowered_comparison, lowered_division, lowered_operation, lowered_multiple};
+ghost use Rattle.expr_forms.specs.Forms.{InTarget, is_word, operand_rest, operand_in, target_rest, division_operand_in, division_operand_block, lowered_minus, lowered_arithmetic, lowered_comparison, lowered_division, lowered_operation, lowered_multiple};
 ghost use Rattle.expr_phrases.specs.PhraseCopies.{division_of, Appends};
-ghost use Rattle.expr_lower.specs.FormCopies.{form_of, without_statements, as_operand, kept_form, kept_rest};
+ghost use Rattle.expr_forms.specs.FormCopies.{form_of, without_statements, as_operand, kept_form, kept_rest};
 
 use crate::forms::{Form, operand, put};
 use expr_constants::{constant, is_division, is_simple};
@@ -218,7 +218,7 @@ fn division(
 
 /// Appends the statements of the comparison with 0 of the remainder of a dividend by the constant `c`,
 /// whose value is a test.
-#[tactic(auto, using(crate::proofs::Appends::push_steps, crate::proofs::MultipleTests::magnitude_positive))]
+#[tactic(auto, using(crate::proofs::Appends::push_steps, crate::proofs::Appends::magnitude_positive))]
 pub fn multiple(
     alloc: Global,
     op: BinOp,

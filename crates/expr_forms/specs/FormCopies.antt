@@ -5,10 +5,10 @@ use Rattle.list_denotation.specs.Terms.{Term}
 use Rattle.list_denotation.specs.Typing.{is_division}
 use Rattle.loop_ir.specs.Statements.{Test, Block, Nil}
 use Rattle.loop_ir.specs.StatementCopies.{operand_of, test_of}
-use Rattle.expr_lower.specs.declared.forms.Form as code
-use Rattle.expr_lower.specs.declared.forms.Form.TheVariants as form
+use Rattle.expr_forms.specs.declared.forms.Form as code
+use Rattle.expr_forms.specs.declared.forms.Form.TheVariants as form
 use Rattle.expr_constants.specs.Simple.{is_simple}
-use Rattle.expr_lower.specs.Lowering.{Form, AWord, ATest, InTarget, Lowered, Condition, operand_rest, target_rest}
+use Rattle.expr_forms.specs.Forms.{Form, AWord, ATest, InTarget, Lowered, Condition, operand_rest, target_rest}
 
 abbrev pub form_of : code.Form → Form
 form_of (form.Word w) = AWord (operand_of w.value)

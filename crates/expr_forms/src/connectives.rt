@@ -2,9 +2,9 @@
 
 ghost use Rattle.std.specs.Prelude.{◌≡◌, IfOk, OnOk};
 ghost use Rattle.loop_ir.specs.StatementCopies.{test_of, block_of};
-ghost use Rattle.expr_lower.specs.Lowering.{connective_rest, connective_form};
+ghost use Rattle.expr_forms.specs.Forms.{connective_rest, connective_form};
 ghost use Rattle.expr_phrases.specs.PhraseCopies.{connective_of, Appends};
-ghost use Rattle.expr_lower.specs.FormCopies.{form_of, test_after};
+ghost use Rattle.expr_forms.specs.FormCopies.{form_of, test_after};
 
 use crate::forms::Form;
 use expr_phrases::{Connective, connected_block, connected_test, set_truth};
