@@ -1,6 +1,6 @@
 -- The statements of an expression, from those of its parts. They put its value into a target variable, or return 1 where
 -- it traps. An expression that needs no statements is a word or a test of the C text as it stands.
-use Rattle.std.specs.Prelude.{ℕ, Bool, true, false, ◌&&◌, if◌then◌else◌, Option}
+use Rattle.std.specs.Prelude.{ℕ, zero, suc, Bool, true, false, ◌&&◌, if◌then◌else◌, Option, Some}
 use Rattle.strm_num.specs.Magnitudes.{magnitude_of}
 use Rattle.list_denotation.specs.declared.expr.BinOp.{BinOp}
 use Rattle.list_denotation.specs.declared.expr.BinOp.TheVariants as sign
@@ -9,7 +9,7 @@ use Rattle.list_denotation.specs.Values.{choice}
 use Rattle.loop_ir.specs.declared.syntax.WOp.{WOp}
 use Rattle.loop_ir.specs.declared.syntax.WOp.TheVariants as op
 use Rattle.loop_ir.specs.Statements.{Operand, Const, Var, Bin, Test, Same, Not, If, Block, Nil, Cons, join}
-use Rattle.expr_phrases.specs.Phrases.{Division, Quotient, Remainder, set, minus, set_truth, opposite, comparison_test, by_divisor, Connective, connected_test, connected_block, divides_modulus, magnitude_block, multiple_test}
+use Rattle.expr_phrases.specs.Phrases.{Division, Quotient, Remainder, set, minus, set_truth, opposite, comparison_test, by_divisor, Connective, Conjunction, Disjunction, connected_test, connected_block, divides_modulus, magnitude_block, multiple_test}
 use Rattle.expr_constants.specs.Constants.{by_constant, constant_of}
 use Rattle.expr_constants.specs.Simple.{is_simple}
 
@@ -148,12 +148,20 @@ connective_form o t b = if is_empty b.block then ATest (connected_test o t b.tes
 abbrev pub lowered_connective : Connective → Condition → Condition → ℕ → Lowered
 lowered_connective o a b v = record { block = join a.block (connective_rest o a.test b v); form = connective_form o a.test b }
 
--- of an expression that isn't constant, where the first part is: the second part decides
+-- of an expression that isn't constant, where one part is: the other part decides
 abbrev pub lowered_truth : Condition → Lowered
 lowered_truth c = record { block = c.block; form = ATest c.test }
 
-abbrev pub lowered_connected : Connective → Option ℕ → Condition → Condition → ℕ → Lowered
-lowered_connected o first a b v = by_constant first (λ c. lowered_truth b) (lowered_connective o a b v)
+-- whether a second part that is constant leaves it to the first one
+abbrev pub is_neutral : Connective → Option ℕ → Bool
+is_neutral Conjunction (Some (suc c)) = true
+is_neutral Disjunction (Some zero) = true
+is_neutral _ _ = false
+
+-- of constants, those of the first and the second part
+abbrev pub lowered_connected : Connective → Option ℕ → Option ℕ → Condition → Condition → ℕ → Lowered
+lowered_connected o first second a b v =
+    by_constant first (λ c. lowered_truth b) (if is_neutral o second then lowered_truth a else lowered_connective o a b v)
 
 -- the branches put their values into v
 abbrev pub lowered_choice : Condition → Block → Block → Lowered

@@ -2,7 +2,7 @@
 
 ghost use Rattle.std.specs.Prelude.{◌≡◌, IfOk, OnOk};
 ghost use Rattle.loop_ir.specs.StatementCopies.{test_of, block_of};
-ghost use Rattle.expr_forms.specs.Forms.{connective_rest, connective_form};
+ghost use Rattle.expr_forms.specs.Forms.{connective_rest, connective_form, is_neutral};
 ghost use Rattle.expr_phrases.specs.PhraseCopies.{connective_of, Appends};
 ghost use Rattle.expr_forms.specs.FormCopies.{form_of, test_after};
 
@@ -10,7 +10,7 @@ use crate::forms::Form;
 use expr_phrases::{Connective, connected_block, connected_test, set_truth};
 use loop_ir::{Stmts, T};
 use std::alloc::Global;
-use strm_num::NoMemory;
+use strm_num::{NoMemory, Word};
 
 /// Appends the statements of `&&` or `||` behind those of the first part, where `more` are those of
 /// the second part.
@@ -37,4 +37,15 @@ pub fn connected(
     set_truth(alloc, v, second, &mut more)?;
     connected_block(alloc, o, first, more, v, block)?;
     Ok(Form::InTarget)
+}
+
+/// Whether a second part that is this constant leaves it to the first one.
+pub fn is_neutral(o: Connective, second: Option<Word>) -> bool
+    ensures { result ≡ is_neutral (connective_of o) second }
+{
+    match (o, second) {
+        (Connective::And, Some(c)) => c != 0,
+        (Connective::Or, Some(c)) => c == 0,
+        (_, None) => false,
+    }
 }

@@ -11,6 +11,6 @@ mod connectives;
 mod forms;
 mod operations;
 
-pub use connectives::connected;
+pub use connectives::{connected, is_neutral};
 pub use forms::{Form, condition, operand, put, word};
 pub use operations::{Part, keep, multiple, negated, operation};

@@ -13,7 +13,7 @@ use Rattle.loop_ir.specs.Counts.{block_count, block_loops}
 use Rattle.expr_phrases.specs.Phrases.{Division, set, set_truth, by_divisor, Connective, Conjunction, Disjunction, connected_test, connected_block, divides_modulus, magnitude_block, multiple_test}
 use Rattle.expr_constants.specs.Constants.{by_constant, constant_of}
 use Rattle.expr_constants.specs.Simple.{is_simple}
-use Rattle.expr_forms.specs.Forms.{Form, AWord, ATest, InTarget, Lowered, is_word, operand_rest, operand_block, target_rest, into, as_word, in_target, lowered_minus, lowered_arithmetic, lowered_comparison, division_operand_block, division_operand_in, operand_in, lowered_division, lowered_operation, lowered_multiple, condition_in, condition_of, is_empty, lowered_connective, lowered_connected, lowered_chosen}
+use Rattle.expr_forms.specs.Forms.{Form, AWord, ATest, InTarget, Lowered, is_word, operand_rest, operand_block, target_rest, into, as_word, in_target, lowered_minus, lowered_arithmetic, lowered_comparison, division_operand_block, division_operand_in, operand_in, lowered_division, lowered_operation, lowered_multiple, condition_in, condition_of, is_empty, is_neutral, lowered_truth, lowered_connective, lowered_connected, lowered_chosen}
 use Rattle.expr_lower.specs.Lowering.{lowered_binary, folded, lowered_parts, lowered_dividend, lowered_term, lowered_into, lowered_test}
 use Rattle.expr_lower.specs.Laws.{Laws}
 use Rattle.expr_lower.specs.Costs.{operation_cost, cost, is_direct, unless_constant, binary_temps, connected_temps, chosen_temps, operation_temps, parts_temps, dividend_temps, temps_of}
@@ -134,9 +134,13 @@ module _ (size : Block → ℕ) (u : ℕ) (is : IsSize size u) where
       by_left None (Some c) is other = omega (arith, multiple_size o (dividend_of b) c y v, right c (multiple_is o b a c other).divisor)
       by_left None None is other = omega (arith, operation_size o a b first second v t, whole, rest)
 
-  connected_first : (o : Connective) (first : Option ℕ) (a b : Lowered) (v : ℕ) → size (into (lowered_connected o first (condition_of a v) (condition_of b v) v) v) ≤ size (into a v) + size (into b v) + u * 5
-  connected_first o (Some c) a b v = omega (arith, is.of_join, truth_size, block_within b v)
-  connected_first o None a b v = connective_size o a b v
+  connected_first : (o : Connective) (first second : Option ℕ) (a b : Lowered) (v : ℕ) → size (into (lowered_connected o first second (condition_of a v) (condition_of b v) v) v) ≤ size (into a v) + size (into b v) + u * 5
+  connected_first o (Some c) second a b v = omega (arith, is.of_join, truth_size, block_within b v)
+  connected_first o None second a b v = by_neutral (is_neutral o second)
+    where
+      by_neutral : (neutral : Bool) → size (into (if neutral then lowered_truth (condition_of a v) else lowered_connective o (condition_of a v) (condition_of b v) v) v) ≤ size (into a v) + size (into b v) + u * 5
+      by_neutral true = omega (arith, is.of_join, truth_size, block_within a v)
+      by_neutral false = connective_size o a b v
 
   choice_size : (condition : Option ℕ) (c a b : Lowered) (v : ℕ) → size (into (lowered_chosen condition (condition_of c v) a b v) v) ≤ size (into c v) + size (into a v) + size (into b v) + u
   choice_size (Some zero) c a b v = omega arith
@@ -171,14 +175,14 @@ module _ (size : Block → ℕ) (u : ℕ) (is : IsSize size u) where
     parts_within rows (And a b) v t =
         omega (
           arith,
-          connected_first Conjunction (constant_of a) (lowered_term rows a v t) (lowered_term rows b v t) v,
+          connected_first Conjunction (constant_of a) (constant_of b) (lowered_term rows a v t) (lowered_term rows b v t) v,
           folded_size (constant_of a) (lowered_parts rows a v t) v (u * cost a) (one_within a) (parts_within rows a v t),
           folded_size (constant_of b) (lowered_parts rows b v t) v (u * cost b) (one_within b) (parts_within rows b v t),
         )
     parts_within rows (Or a b) v t =
         omega (
           arith,
-          connected_first Disjunction (constant_of a) (lowered_term rows a v t) (lowered_term rows b v t) v,
+          connected_first Disjunction (constant_of a) (constant_of b) (lowered_term rows a v t) (lowered_term rows b v t) v,
           folded_size (constant_of a) (lowered_parts rows a v t) v (u * cost a) (one_within a) (parts_within rows a v t),
           folded_size (constant_of b) (lowered_parts rows b v t) v (u * cost b) (one_within b) (parts_within rows b v t),
         )

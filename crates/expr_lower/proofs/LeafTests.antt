@@ -18,7 +18,7 @@ use Rattle.expr_phrases.specs.Results.{is_equality}
 use Rattle.expr_phrases.specs.Phrases.{Division, Quotient, Remainder, set, minus, set_truth, by_divisor, Connective, Conjunction, Disjunction, connected_test, connected_block, divides_modulus, magnitude_block}
 use Rattle.expr_constants.specs.Constants.{by_constant, constant_of, IsWordConstant}
 use Rattle.expr_constants.specs.Simple.{is_simple}
-use Rattle.expr_forms.specs.Forms.{Form, AWord, ATest, InTarget, Lowered, Condition, condition_of, is_word, operand_rest, operand_block, operand_in, condition_in, target_rest, into, as_word, in_target, lowered_minus, lowered_not, lowered_arithmetic, lowered_comparison, division_operand_block, division_operand_in, lowered_division, lowered_operation, lowered_multiple, is_empty, connective_rest, lowered_connective, lowered_connected, lowered_choice, lowered_chosen}
+use Rattle.expr_forms.specs.Forms.{Form, AWord, ATest, InTarget, Lowered, Condition, condition_of, is_word, operand_rest, operand_block, operand_in, condition_in, target_rest, into, as_word, in_target, lowered_minus, lowered_not, lowered_arithmetic, lowered_comparison, division_operand_block, division_operand_in, lowered_division, lowered_operation, lowered_multiple, is_empty, connective_rest, is_neutral, lowered_truth, lowered_connective, lowered_connected, lowered_choice, lowered_chosen}
 use Rattle.expr_lower.specs.Lowering.{folded, lowered_parts, lowered_dividend, lowered_term, lowered_into}
 use Rattle.expr_lower.specs.Costs.{is_arithmetic, chosen_plain, has_plain_parts, is_plain, is_direct, unless_constant, binary_temps, connected_temps, chosen_temps, operation_temps, parts_temps, dividend_temps, temps_of}
 use Rattle.expr_lower.specs.Multiples.{dividend_of, multiple_divisor}
@@ -318,11 +318,20 @@ module _ (laws : Laws) (passes : Operand → Bool) (constants : (c : ℕ) → Is
   second_room (Some c) plain m n v t r = room plain n v t n (r.target refl) (r.temps refl) (omega arith)
   second_room None plain m n v t r = room plain n v t (max m n) (r.target refl) (r.temps refl) (omega arith)
 
-  connected_in : (o : Connective) (first : Option ℕ) (a b : Lowered) (m n v t : ℕ) (plain : Bool) → HasRoom false (connected_temps first m n) v t → (HasRoom plain m v t → InLowered a) → InLowered b → InLowered (lowered_connected o first (condition_of a v) (condition_of b v) v)
-  connected_in o (Some c) a b m n v t plain r h k = let second = condition_of_in b v k (r.target refl) in record { block = second.block; form = second.test }
-  connected_in o None a b m n v t plain r h k =
-      connective_in o (condition_of a v) (condition_of b v) v (condition_of_in a v (h (room plain m v t (max m n) (r.target refl) (r.temps refl) (omega arith))) (r.target refl))
-      (condition_of_in b v k (r.target refl)) (r.target refl)
+  truth_form_in : (l : Lowered) (v : ℕ) → InLowered l → InVariable v → InLowered (lowered_truth (condition_of l v))
+  truth_form_in l v h at = let c = condition_of_in l v h at in record { block = c.block; form = c.test }
+
+  connected_in : (o : Connective) (first second : Option ℕ) (a b : Lowered) (m n v t : ℕ) (plain : Bool) → HasRoom false (connected_temps first m n) v t → (HasRoom plain m v t → InLowered a) → InLowered b → InLowered (lowered_connected o first second (condition_of a v) (condition_of b v) v)
+  connected_in o (Some c) second a b m n v t plain r h k = truth_form_in b v k (r.target refl)
+  connected_in o None second a b m n v t plain r h k = by_neutral (is_neutral o second)
+    where
+      first_in : InLowered a
+      first_in = h (room plain m v t (max m n) (r.target refl) (r.temps refl) (omega arith))
+
+      by_neutral : (neutral : Bool) → InLowered (if neutral then lowered_truth (condition_of a v) else lowered_connective o (condition_of a v) (condition_of b v) v)
+      by_neutral true = truth_form_in a v first_in (r.target refl)
+      by_neutral false =
+          connective_in o (condition_of a v) (condition_of b v) v (condition_of_in a v first_in (r.target refl)) (condition_of_in b v k (r.target refl)) (r.target refl)
 
   chosen_in : (condition : Option ℕ) (c a b : Lowered) (plain first second : Bool) (l m n v t : ℕ) → HasRoom (chosen_plain condition first second) (chosen_temps condition l m n) v t → (HasRoom plain l v t → InLowered c) → (HasRoom first m v t → InLowered a) → (HasRoom second n v t → InLowered b) → InLowered (lowered_chosen condition (condition_of c v) a b v)
   chosen_in (Some zero) c a b plain first second l m n v t r h j k = k r
@@ -389,11 +398,11 @@ module _ (laws : Laws) (passes : Operand → Bool) (constants : (c : ℕ) → Is
           binary_in rows o a b v t has r (λ at temps. dividend_in a v t has.0 m.0 at temps) (λ at temps. dividend_in b v t has.1 m.1 at temps)
           (λ part. folded_in a v t has.0 (parts_in a v t has.0 m.0) part) (λ part. folded_in b t (t + 1) has.1 (parts_in b t (t + 1) has.1 m.1) part)
       parts_in (And a b) v t has m r =
-          connected_in Conjunction (constant_of a) (lowered_term rows a v t) (lowered_term rows b v t) (temps_of a) (temps_of b) v t (is_plain a) r
+          connected_in Conjunction (constant_of a) (constant_of b) (lowered_term rows a v t) (lowered_term rows b v t) (temps_of a) (temps_of b) v t (is_plain a) r
           (folded_in a v t has.0 (parts_in a v t has.0 m.0))
           (folded_in b v t has.1 (parts_in b v t has.1 m.1) (second_room (constant_of a) (is_plain b) (temps_of a) (temps_of b) v t r))
       parts_in (Or a b) v t has m r =
-          connected_in Disjunction (constant_of a) (lowered_term rows a v t) (lowered_term rows b v t) (temps_of a) (temps_of b) v t (is_plain a) r
+          connected_in Disjunction (constant_of a) (constant_of b) (lowered_term rows a v t) (lowered_term rows b v t) (temps_of a) (temps_of b) v t (is_plain a) r
           (folded_in a v t has.0 (parts_in a v t has.0 m.0))
           (folded_in b v t has.1 (parts_in b v t has.1 m.1) (second_room (constant_of a) (is_plain b) (temps_of a) (temps_of b) v t r))
       parts_in (If c a b) v t has m r =

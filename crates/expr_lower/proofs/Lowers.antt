@@ -19,7 +19,7 @@ use Rattle.expr_lower.specs.Contract.{is_true, Kept, GoesOn, ComesTo, IsIn}
 use Rattle.expr_phrases.specs.Phrases.{Division, Quotient, Remainder, set, minus, set_truth, opposite, comparison_test, by_divisor, Connective, Conjunction, Disjunction, connected_test, connected_block, divides_modulus, magnitude_block, multiple_test}
 use Rattle.expr_constants.specs.Constants.{by_constant, conjunction_constant, disjunction_constant, constant_of}
 use Rattle.expr_constants.specs.Simple.{is_simple}
-use Rattle.expr_forms.specs.Forms.{Lowered, Form, AWord, ATest, InTarget, is_word, as_word, in_target, operand_block, operand_in, condition_in, into, division_operand_block, division_operand_in, lowered_minus, lowered_arithmetic, lowered_comparison, lowered_division, lowered_operation, lowered_multiple, is_empty, connective_form, lowered_connective, lowered_connected, lowered_choice, lowered_chosen}
+use Rattle.expr_forms.specs.Forms.{Lowered, Form, AWord, ATest, InTarget, is_word, as_word, in_target, operand_block, operand_in, condition_in, into, division_operand_block, division_operand_in, lowered_minus, lowered_arithmetic, lowered_comparison, lowered_division, lowered_operation, lowered_multiple, is_empty, is_neutral, lowered_truth, connective_form, lowered_connective, lowered_connected, lowered_choice, lowered_chosen}
 use Rattle.expr_lower.specs.Lowering.{folded, lowered_parts, lowered_dividend, lowered_term, lowered_test}
 use Rattle.expr_lower.specs.Costs.{has_plain_parts, is_plain, is_direct, unless_constant, binary_temps, connected_temps, chosen_temps, operation_temps, parts_temps, dividend_temps, temps_of}
 use Rattle.expr_lower.specs.Multiples.{divisor_of, dividend_of, multiple_divisor}
@@ -28,7 +28,7 @@ use Rattle.expr_lower.specs.PlainWords.{arithmetic_operator}
 use Rattle.expr_lower.specs.Scopes.{EachLeaf, IsWordLeaf, IsLeafInPlace, WordsInPlace}
 use Rattle.expr_lower.proofs.Disjointness.{IsDisjointLeaf, IsDisjoint, disjoint_right}
 use Rattle.expr_lower.proofs.Effects.{then_comes, maps, holds_too, nothing_comes, assigns_comes, set_comes, first_comes, second_comes, set_truth_comes}
-use Rattle.expr_lower.proofs.MultipleTests.{multiple_is, divisor_not_zero, divisor_word, dividend_leaves, dividend_room, dividend_lowered, multiple_value, left_multiple, right_multiple}
+use Rattle.expr_lower.proofs.MultipleTests.{multiple_is, divisor_not_zero, divisor_word, dividend_leaves, dividend_room, dividend_lowered, with_same, multiple_value, left_multiple, right_multiple}
 use Rattle.expr_lower.proofs.Plain.{plain_form, parts_plain}
 use Rattle.expr_lower.proofs.PlainValues.{arithmetic_value, arithmetic_word, truth_word, word_unless_zero, chosen_value}
 use Rattle.expr_lower.proofs.ValueUses.{HasTruth, IsFound, IsOperand, IsCondition, still_in_place, operand_comes, condition_comes, target_comes}
@@ -489,17 +489,37 @@ module _ (laws : Laws) (rows words : List ℕ) (inputs : List Input) where
   abbrev truth_value : Term → Got ℕ
   truth_value b = with_value (value b words inputs) (λ y. Is (choice y 0 1))
 
-  connected_comes : (o : Connective) (a b e : Term) (v t top : ℕ) (env : List ℕ) (first : Option ℕ) → constant_of a ≡ first → ((c : ℕ) → constant_of a ≡ Some c → value e words inputs ≡ truth_value b) → value e words inputs ≡ with_value (value a words inputs) (λ x. decided o x (truth_value b)) → t + connected_temps first (temps_of a) (temps_of b) ≤ top → ReadyWithin a v t top env → ReadyWithin b v t top env → LowersPart a v t top → LowersPart b v t top → IsLoweredTo rows words inputs e (lowered_connected o first (lowered_test rows a v t) (lowered_test rows b v t) v) v t top env
+  -- a second part that is neutral leaves it to the first one
+  both_ends : (x : ℕ) → choice {A = Got ℕ} x (Is 0) (Is 1) ≡ Is (choice x 0 1)
+  both_ends zero = refl
+  both_ends (suc x) = refl
+
+  neutral_value : (o : Connective) (a b : Term) (second : Option ℕ) → constant_of b ≡ second → IsTrue (is_neutral o second) → with_value (value a words inputs) (λ x. decided o x (truth_value b)) ≡ truth_value a
+  neutral_value Conjunction a b (Some zero) is h = absurd cc
+  neutral_value Conjunction a b (Some (suc c)) is h =
+      ap (λ g. with_value (value a words inputs) (λ x. choice x (Is 0) (with_value g (λ y. Is (choice y 0 1))))) (laws.constant_value b (suc c) words inputs is)
+      ∙ with_same (value a words inputs) _ _ both_ends
+  neutral_value Disjunction a b (Some zero) is h =
+      ap (λ g. with_value (value a words inputs) (λ x. choice x (with_value g (λ y. Is (choice y 0 1))) (Is 1))) (laws.constant_value b 0 words inputs is)
+      ∙ with_same (value a words inputs) _ _ both_ends
+  neutral_value Disjunction a b (Some (suc c)) is h = absurd cc
+  neutral_value Conjunction a b None is h = absurd cc
+  neutral_value Disjunction a b None is h = absurd cc
+
+  connected_comes : (o : Connective) (a b e : Term) (v t top : ℕ) (env : List ℕ) (first : Option ℕ) → constant_of a ≡ first → ((c : ℕ) → constant_of a ≡ Some c → value e words inputs ≡ truth_value b) → value e words inputs ≡ with_value (value a words inputs) (λ x. decided o x (truth_value b)) → t + connected_temps first (temps_of a) (temps_of b) ≤ top → ReadyWithin a v t top env → ReadyWithin b v t top env → LowersPart a v t top → LowersPart b v t top → IsLoweredTo rows words inputs e (lowered_connected o first (constant_of b) (lowered_test rows a v t) (lowered_test rows b v t) v) v t top env
   connected_comes o a b e v t top env (Some c) is decides whole room ready_a ready_b lower_a lower_b =
       let ready = ready_b room in
       subst (λ g. ComesTo inputs (lowered_term rows b v t).block env v t top (λ x env'. HasTruth rows words inputs (part_test b v t) env' x) g) (sym (decides c is))
       (truth_comes b v t top env ready (lower_b env ready))
-  connected_comes o a b e v t top env None is decides whole room ready_a ready_b lower_a lower_b =
-      let first = ready_a (omega (arith, room)) in
-      let second = ready_b (omega (arith, room)) in
-      let l : Lowered = lowered_connective o (lowered_test rows a v t) (lowered_test rows b v t) v in
-      subst (λ g. ComesTo inputs l.block env v t top (IsFound rows words inputs e l.form v) g) (sym whole)
-      (connective_comes a b v t top env first second (lower_a env first) lower_b o e (is_empty (lowered_term rows b v t).block) refl)
+  connected_comes o a b e v t top env None is decides whole room ready_a ready_b lower_a lower_b = by_neutral (is_neutral o (constant_of b)) refl
+    where
+      by_neutral : (neutral : Bool) → is_neutral o (constant_of b) ≡ neutral → IsLoweredTo rows words inputs e (if neutral then lowered_truth (lowered_test rows a v t) else lowered_connective o (lowered_test rows a v t) (lowered_test rows b v t) v) v t top env
+      by_neutral true neutral =
+          subst (λ g. ComesTo inputs (lowered_term rows a v t).block env v t top (λ x env'. HasTruth rows words inputs (part_test a v t) env' x) g) (sym (whole ∙ neutral_value o a b (constant_of b) refl neutral))
+          (truth_comes a v t top env (ready_a (omega (arith, room))) (lower_a env (ready_a (omega (arith, room)))))
+      by_neutral false neutral =
+          subst (λ g. ComesTo inputs (lowered_connective o (lowered_test rows a v t) (lowered_test rows b v t) v).block env v t top (IsFound rows words inputs e (connective_form o (part_test a v t) (lowered_test rows b v t)) v) g) (sym whole)
+          (connective_comes a b v t top env (ready_a (omega (arith, room))) (ready_b (omega (arith, room))) (lower_a env (ready_a (omega (arith, room)))) lower_b o e (is_empty (lowered_term rows b v t).block) refl)
 
   -- the constant of the first part doesn't decide, since the whole isn't constant
   conjunction_decided : (a b : Term) (c : ℕ) → constant_of (term.And a b) ≡ None → constant_of a ≡ Some c → value (term.And a b) words inputs ≡ truth_value b

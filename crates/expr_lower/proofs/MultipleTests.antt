@@ -84,29 +84,11 @@ binary_arithmetic _ a b x y first second v t h = absurd cc
 
 pub dividend_leaves : (P : Term → Type 0) (a : Term) → EachLeaf P a → EachLeaf P (dividend_of a)
 dividend_leaves P (term.Bin o x y) h = h.0
-dividend_leaves P (term.Lit c) h = h
-dividend_leaves P (term.Truth b) h = h
-dividend_leaves P (term.Var k) h = h
-dividend_leaves P (term.Param k) h = h
-dividend_leaves P (term.Len k) h = h
-dividend_leaves P (term.Neg a) h = h
-dividend_leaves P (term.Not a) h = h
-dividend_leaves P (term.And a b) h = h
-dividend_leaves P (term.Or a b) h = h
-dividend_leaves P (term.If c a b) h = h
+dividend_leaves P _ h = h
 
 pub dividend_shallow : (a : Term) → term_depth (dividend_of a) ≤ term_depth a
 dividend_shallow (term.Bin o x y) = omega arith
-dividend_shallow (term.Lit c) = omega arith
-dividend_shallow (term.Truth b) = omega arith
-dividend_shallow (term.Var k) = omega arith
-dividend_shallow (term.Param k) = omega arith
-dividend_shallow (term.Len k) = omega arith
-dividend_shallow (term.Neg a) = omega arith
-dividend_shallow (term.Not a) = omega arith
-dividend_shallow (term.And a b) = omega arith
-dividend_shallow (term.Or a b) = omega arith
-dividend_shallow (term.If c a b) = omega arith
+dividend_shallow _ = omega arith
 
 pub dividend_room : (a : Term) (c : ℕ) → divisor_of a ≡ Some c → dividend_temps a ≡ temps_of (dividend_of a)
 dividend_room (term.Bin o x y) c h = refl

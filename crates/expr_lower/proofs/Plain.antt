@@ -8,7 +8,7 @@ use Rattle.loop_ir.specs.Statements.{Operand, Test, Block}
 use Rattle.expr_constants.specs.Constants.{by_constant, constant_of}
 use Rattle.expr_constants.specs.Simple.{is_leaf, is_simple}
 use Rattle.expr_phrases.specs.Phrases.{Connective, Conjunction, Disjunction}
-use Rattle.expr_forms.specs.Forms.{Lowered, Condition, ATest, InTarget, is_word, as_word, in_target, lowered_operation, lowered_multiple, is_empty, lowered_connected, lowered_chosen}
+use Rattle.expr_forms.specs.Forms.{Lowered, Condition, ATest, InTarget, is_word, as_word, in_target, lowered_operation, lowered_multiple, is_empty, is_neutral, lowered_truth, lowered_connective, lowered_connected, lowered_chosen}
 use Rattle.expr_lower.specs.Lowering.{lowered_binary, folded, lowered_parts, lowered_dividend, lowered_term}
 use Rattle.expr_lower.specs.Multiples.{dividend_of, multiple_divisor}
 use Rattle.expr_lower.specs.Costs.{is_arithmetic, chosen_plain, has_plain_parts, is_plain}
@@ -52,10 +52,14 @@ binary_form Ne p q x y a b v t =
     other_form (multiple_divisor Ne p q) (multiple_divisor Ne q p) (λ c. lowered_multiple Ne (dividend_of p) c x v) (λ c. lowered_multiple Ne (dividend_of q) c y v) (lowered_operation Ne p q a b v t) (λ c. refl) (λ c. refl) refl
 binary_form _ p q x y a b v t = refl
 
--- a test, or a value in the target, is no word either where a first part is constant
-connected_form : (o : Connective) (first : Option ℕ) (a b : Condition) (v : ℕ) → is_word (lowered_connected o first a b v).form ≡ false
-connected_form o (Some c) a b v = refl
-connected_form o None a b v = no_word (is_empty b.block) _
+-- a test, or a value in the target, is no word either where a part is constant
+connected_form : (o : Connective) (first second : Option ℕ) (a b : Condition) (v : ℕ) → is_word (lowered_connected o first second a b v).form ≡ false
+connected_form o (Some c) second a b v = refl
+connected_form o None second a b v = by_neutral (is_neutral o second)
+  where
+    by_neutral : (neutral : Bool) → is_word (if neutral then lowered_truth a else lowered_connective o a b v).form ≡ false
+    by_neutral true = refl
+    by_neutral false = no_word (is_empty b.block) _
 
 -- the branch that is chosen
 chosen_form : (condition : Option ℕ) (c : Condition) (a b : Lowered) (v : ℕ) (first second : Bool) → is_word a.form ≡ first → is_word b.form ≡ second → is_word (lowered_chosen condition c a b v).form ≡ chosen_plain condition first second
@@ -80,8 +84,8 @@ parts_form rows (Bin o a b) v t =
     ∙ same_parts o (is_word first.form) (is_word second.form) (is_plain a) (is_plain b)
     (folded_form (constant_of a) (lowered_parts rows a v t) (has_plain_parts a) (parts_form rows a v t))
     (folded_form (constant_of b) (lowered_parts rows b t (t + 1)) (has_plain_parts b) (parts_form rows b t (t + 1)))
-parts_form rows (And a b) v t = connected_form Conjunction (constant_of a) _ _ v
-parts_form rows (Or a b) v t = connected_form Disjunction (constant_of a) _ _ v
+parts_form rows (And a b) v t = connected_form Conjunction (constant_of a) (constant_of b) _ _ v
+parts_form rows (Or a b) v t = connected_form Disjunction (constant_of a) (constant_of b) _ _ v
 parts_form rows (If c a b) v t =
     chosen_form (constant_of c) _ (lowered_term rows a v t) (lowered_term rows b v t) v (is_plain a) (is_plain b)
     (folded_form (constant_of a) (lowered_parts rows a v t) (has_plain_parts a) (parts_form rows a v t))

@@ -1,5 +1,5 @@
 -- Worked expressions: what their statements are, and what they do.
-use Rattle.std.specs.Prelude.{◌≡◌, refl, true, ◌-◌, ◌^◌, [], ◌∷◌}
+use Rattle.std.specs.Prelude.{◌≡◌, refl, true, false, ◌-◌, ◌^◌, [], ◌∷◌}
 use Rattle.list_denotation.specs.declared.expr.BinOp.TheVariants as sign
 use Rattle.list_denotation.specs.Terms as term
 use Rattle.list_denotation.specs.Terms.{Term}
@@ -106,6 +106,10 @@ ruled_out_temporaries = refl
 -- true && x == 5 is x == 5
 second_text : (lowered_test (1 ∷ []) (term.And (term.Truth true) (term.Bin sign.Eq (term.Var 0) (term.Lit 5))) 2 3).test ≡ Same (Var 1) (Const 5)
 second_text = refl
+
+-- x == 5 || false is x == 5
+first_text : (lowered_test (1 ∷ []) (term.Or (term.Bin sign.Eq (term.Var 0) (term.Lit 5)) (term.Truth false)) 2 3).test ≡ Same (Var 1) (Const 5)
+first_text = refl
 
 -- x % 2 == 0 tests the word itself
 even_text : lowered_test (1 ∷ []) (term.Bin sign.Eq (term.Bin sign.Rem (term.Var 0) (term.Lit 2)) (term.Lit 0)) 2 3

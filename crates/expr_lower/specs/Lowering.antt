@@ -35,10 +35,10 @@ abbrev mutual
       lowered_binary o a b (lowered_dividend rows a v t) (lowered_dividend rows b v t) (folded (constant_of a) (lowered_parts rows a v t))
       (folded (constant_of b) (lowered_parts rows b t (t + 1))) v t
   lowered_parts rows (term.And a b) v t =
-      lowered_connected Conjunction (constant_of a) (condition_of (folded (constant_of a) (lowered_parts rows a v t)) v)
+      lowered_connected Conjunction (constant_of a) (constant_of b) (condition_of (folded (constant_of a) (lowered_parts rows a v t)) v)
       (condition_of (folded (constant_of b) (lowered_parts rows b v t)) v) v
   lowered_parts rows (term.Or a b) v t =
-      lowered_connected Disjunction (constant_of a) (condition_of (folded (constant_of a) (lowered_parts rows a v t)) v)
+      lowered_connected Disjunction (constant_of a) (constant_of b) (condition_of (folded (constant_of a) (lowered_parts rows a v t)) v)
       (condition_of (folded (constant_of b) (lowered_parts rows b v t)) v) v
   lowered_parts rows (term.If c a b) v t =
       lowered_chosen (constant_of c) (condition_of (folded (constant_of c) (lowered_parts rows c v t)) v)

@@ -15,7 +15,8 @@ ghost use Rattle.expr_forms.specs.FormCopies.{form_of};
 use crate::multiples::{dividend, multiple_divisor};
 use expr_constants::constant;
 use expr_forms::{
-    Form, Part, condition, connected, keep, multiple, negated, operand, operation, put, word,
+    Form, Part, condition, connected, is_neutral, keep, multiple, negated, operand, operation, put,
+    word,
 };
 use expr_phrases::{Connective, opposite};
 use list_denotation::{BinOp, Expr, Words};
@@ -217,7 +218,7 @@ fn lower_operation(
     operation(alloc, op, left, Part { e: b, form, at: t }, block)
 }
 
-/// Appends the statements of `&&` or `||`. Where the first part is constant, the second one decides.
+/// Appends the statements of `&&` or `||`. Where one part is constant, the other one decides.
 #[cycle(terms)]
 #[tactic(auto, using(crate::proofs::Appends::push_steps))]
 fn lower_connective(
@@ -235,12 +236,12 @@ fn lower_connective(
     requires few { frame.first_temp + connected_temps (constant_of (term_of a.now))
         (temps_of (term_of a.now)) (temps_of (term_of b.now)) < 2 ^ 32 }
     ensures block { OnOk result (Appends block.old block.new
-        (lowered_connected (connective_of o) (constant_of (term_of a.now))
+        (lowered_connected (connective_of o) (constant_of (term_of a.now)) (constant_of (term_of b.now))
         (lowered_test rows.now (term_of a.now) frame.target frame.first_temp)
         (lowered_test rows.now (term_of b.now) frame.target frame.first_temp)
         frame.target).block) }
     ensures form { IfOk result (λ f. form_of f
-        ≡ (lowered_connected (connective_of o) (constant_of (term_of a.now))
+        ≡ (lowered_connected (connective_of o) (constant_of (term_of a.now)) (constant_of (term_of b.now))
         (lowered_test rows.now (term_of a.now) frame.target frame.first_temp)
         (lowered_test rows.now (term_of b.now) frame.target frame.first_temp)
         frame.target).form) }
@@ -249,6 +250,9 @@ fn lower_connective(
         return Ok(Form::Test(lower_condition(alloc, b, rows, frame, block)?));
     }
     let first = lower_condition(alloc, a, rows, frame, block)?;
+    if is_neutral(o, constant(b)) {
+        return Ok(Form::Test(first));
+    }
     let mut more = Stmts::new(alloc);
     let second = lower_condition(alloc, b, rows, frame, &mut more)?;
     connected(alloc, o, first, more, second, frame.target, block)
