@@ -1,14 +1,16 @@
 //! Expressions as statements of loop programs.
 //!
 //! It depends on list_denotation, loop_ir, state_alloc, expr_constants and expr_forms, whose forms the
-//! statements are put together from. `specs/Lowering` says which statements an expression becomes, on plain
-//! copies. `lower` and `lower_into` carry the promise: their statements put the expression's value
-//! into a target variable, or return 1 exactly where it traps; they have no loop, change nothing
-//! else but temporaries, name nothing but what the expression names, and are at most as many as its
-//! cost. `lower_test` says the same of a condition, whose truth is that of a test. The law
-//! `expressions_are_lowered` says all of it of the definitions alone, which is what a proof about
-//! more statements cites, with `scopes_hold_expressions` for expressions over a whole scope. Two
-//! more laws bound the cost by the nodes and the temporaries by the depth.
+//! statements are put together from. `specs/Lowering` says which statements an expression becomes,
+//! on plain copies. `lower` and `lower_into` carry the promise: their statements put the expression's
+//! value into a target variable, or return 1 exactly where it traps; they have no loop, change
+//! nothing else but temporaries, name nothing but what the expression names, and are at most as many
+//! as its cost. `lower_test` says the same of a condition, whose truth is that of a test, and
+//! `lower_operand` of an operand, whose value is that of a word. The law `expressions_are_lowered`
+//! says all of it of the definitions alone, which is what a proof about more statements cites, with
+//! `scopes_hold_expressions` for expressions over a whole scope. An expression for which `is_plain`
+//! holds is one word and needs no statements, by `plain_expressions_are_words`. Two more laws bound
+//! the cost by the nodes and the temporaries by the depth.
 #![tactic(auto)]
 
 mod laws;

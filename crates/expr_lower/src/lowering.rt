@@ -236,12 +236,14 @@ fn lower_connective(
     requires few { frame.first_temp + connected_temps (constant_of (term_of a.now))
         (temps_of (term_of a.now)) (temps_of (term_of b.now)) < 2 ^ 32 }
     ensures block { OnOk result (Appends block.old block.new
-        (lowered_connected (connective_of o) (constant_of (term_of a.now)) (constant_of (term_of b.now))
+        (lowered_connected (connective_of o) (constant_of (term_of a.now))
+        (constant_of (term_of b.now))
         (lowered_test rows.now (term_of a.now) frame.target frame.first_temp)
         (lowered_test rows.now (term_of b.now) frame.target frame.first_temp)
         frame.target).block) }
     ensures form { IfOk result (λ f. form_of f
-        ≡ (lowered_connected (connective_of o) (constant_of (term_of a.now)) (constant_of (term_of b.now))
+        ≡ (lowered_connected (connective_of o) (constant_of (term_of a.now))
+        (constant_of (term_of b.now))
         (lowered_test rows.now (term_of a.now) frame.target frame.first_temp)
         (lowered_test rows.now (term_of b.now) frame.target frame.first_temp)
         frame.target).form) }
