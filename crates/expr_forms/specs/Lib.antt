@@ -1,2 +1,4 @@
 pub mod Forms
 pub mod FormCopies
+pub mod FormLeaves
+pub mod Laws

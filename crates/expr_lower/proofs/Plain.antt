@@ -30,7 +30,7 @@ same_parts : (o : BinOp) (a b c d : Bool) → a ≡ c → b ≡ d → (is_arithm
 same_parts o a b c d p q = cc
 
 -- sums and products are words where both parts are
-operation_form : (o : BinOp) (x y : Term) (a b : Lowered) (v t : ℕ) → is_word (lowered_operation o x y a b v t).form ≡ (is_arithmetic o && (is_word a.form && is_word b.form))
+pub operation_form : (o : BinOp) (x y : Term) (a b : Lowered) (v t : ℕ) → is_word (lowered_operation o x y a b v t).form ≡ (is_arithmetic o && (is_word a.form && is_word b.form))
 operation_form Add x y a b v t = word_if (is_word a.form && is_word b.form) _ _
 operation_form Sub x y a b v t = word_if (is_word a.form && is_word b.form) _ _
 operation_form Mul x y a b v t = word_if (is_word a.form && is_word b.form) _ _

@@ -16,12 +16,13 @@ ghost use Rattle.expr_lower.specs.PlainWords.{plain_word};
 ghost use Rattle.expr_lower.specs.Scopes.{WordsInPlace, ScopeInPlace, MayNameWords};
 
 use expr_constants::constants_are_values;
+use expr_forms::forms_have_the_leaves_of_their_parts;
 use expr_phrases::{
     comparisons_tell_the_signed_order, divisions_assign_signed_results, opposites_negate,
     zero_remainders_need_no_sign,
 };
 
-/// What expr_constants and expr_phrases promise of their definitions.
+/// What the crates below promise of their definitions.
 pub fn laws_below()
     ensures { Laws }
 {
@@ -30,6 +31,7 @@ pub fn laws_below()
     comparisons_tell_the_signed_order();
     divisions_assign_signed_results();
     zero_remainders_need_no_sign();
+    forms_have_the_leaves_of_their_parts();
 }
 
 /// The cost of an expression is at most 9 for each of its nodes.
