@@ -18,6 +18,7 @@ two old mid new first rest h k = k ∙ ap (λ m. join m rest) h ∙ join_join ol
 
 module _ (rows : List ℕ) (v t : ℕ) where
   pub minus_step : (e a : Term) (old mid new : Block) (f : Form) → e ≡ term.Neg a → mid ≡ join old (lowered_term rows a v t).block → f ≡ (lowered_term rows a v t).form → new ≡ join mid (lowered_minus (without_statements f) v).block → new ≡ join old (lowered_parts rows e v t).block
+  unfolding lowered_term
   minus_step e a old mid new f shape h form k =
       let l = lowered_term rows a v t in
       two old mid new l.block (lowered_minus (without_statements f) v).block h k

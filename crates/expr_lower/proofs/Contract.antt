@@ -14,10 +14,11 @@ use Rattle.loop_ir.proofs.JoinedBlocks.{names_joined, words_joined}
 use Rattle.state_alloc.specs.Layouts.{IsLaidOut}
 use Rattle.expr_lower.specs.Contract.{Scope, top_of, value_block, condition_block, condition_test, operand_statements, operand_word, IsLowerable, GivesValue, GivesTruth, GivesWord, MayUse, NamesOnly, TestNamesOnly, WordNamesOnly, PutsValue, TellsTruth, YieldsWord, StandsFor}
 use Rattle.expr_lower.specs.Costs.{is_plain, temps_of}
-use Rattle.expr_forms.specs.Forms.{operand_block, operand_in, into}
+use Rattle.expr_forms.specs.Forms.{is_empty, operand_block, operand_in, into}
 use Rattle.expr_lower.specs.PlainWords.{plain_word}
 use Rattle.expr_lower.specs.Laws.{Laws}
 use Rattle.expr_lower.specs.Scopes.{EachLeaf, IsWordLeaf, WordsInPlace, MayNameLeaf, MayNameWords}
+use Rattle.expr_lower.proofs.BareForms.{bare_test}
 use Rattle.expr_lower.proofs.Disjointness.{unread_disjoint}
 use Rattle.expr_lower.proofs.Leaves.{both_leaves, each_leaf, tested_leaves, word_leaves}
 use Rattle.expr_lower.proofs.Operands.{Ready}
@@ -120,6 +121,11 @@ module _ (laws : Laws) (scope : Scope) (e : Term) (target : ℕ) (has : IsTrue (
   operand_word_constants =
       operand_word_in laws is_word_leaf word_constant words_joined scope.rows e target scope.first_temp (top_of scope)
       refl (λ v low high. refl) enough (word_leaves e has) (constant_leaves scope.rows e (word_leaves e has))
+
+-- a condition without statements doesn't name its target
+pub bare_test_names : (laws : Laws) (may : Names) (scope : Scope) (e : Term) (scratch : ℕ) → IsTrue (has_words e) → IsTrue (is_empty (condition_block scope e scratch)) → MayNameWords may scope.rows e → IsTrue (names_inputs may.inputs e) → IsTrue (test_names may (condition_test scope e scratch))
+bare_test_names laws may scope e scratch has none words inputs =
+    bare_test laws (is_named_leaf may) (λ c word. refl) scope.rows e scratch scope.first_temp (word_leaves e has) (named_leaves may scope.rows e words inputs) none
 
 -- ---- what the statements do
 

@@ -159,6 +159,8 @@ module _ (size : Block → ℕ) (u : ℕ) (is : IsSize size u) where
   folded_size None l v n one h = h
 
   mutual
+    unfolding lowered_term
+
     -- the size of an expression's statements is within its cost
     parts_within : (rows : List ℕ) (e : Term) (v t : ℕ) → size (into (lowered_parts rows e v t) v) ≤ u * cost e
     parts_within rows (Neg a) v t =
@@ -204,6 +206,7 @@ module _ (size : Block → ℕ) (u : ℕ) (is : IsSize size u) where
     dividend_within rows _ c v t is = absurd cc
 
   size_within : (rows : List ℕ) (e : Term) (v t : ℕ) → size (lowered_into rows e v t) ≤ u * cost e
+  unfolding lowered_term
   size_within rows e v t =
       folded_size (constant_of e) (lowered_parts rows e v t) v (u * cost e) (one_within e) (parts_within rows e v t)
 

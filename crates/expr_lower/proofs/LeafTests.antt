@@ -154,6 +154,7 @@ module _ (laws : Laws) (passes : Operand → Bool) (constants : (c : ℕ) → Is
   DividendIn rows a v t = InVariable v → ((x : ℕ) → t ≤ x → x < t + dividend_temps a → InVariable x) → InLowered (lowered_dividend rows a v t)
 
   binary_in : (rows : List ℕ) (o : BinOp) (a b : Term) (v t : ℕ) → EachLeaf IsWordLeaf (Bin o a b) → HasRoom (has_plain_parts (Bin o a b)) (parts_temps (Bin o a b)) v t → DividendIn rows a v t → DividendIn rows b v t → (HasRoom (is_plain a) (temps_of a) v t → InLowered (lowered_term rows a v t)) → (HasRoom (is_plain b) (temps_of b) t (t + 1) → InLowered (lowered_term rows b t (t + 1))) → InLowered (lowered_parts rows (Bin o a b) v t)
+  unfolding lowered_term
   binary_in rows o a b v t has r left right first second = by_left (multiple_divisor o a b) (multiple_divisor o b a) refl refl r
     where
       no_plain : IsTrue (is_equality o) → has_plain_parts (Bin o a b) ≡ false
@@ -182,6 +183,7 @@ module _ (laws : Laws) (passes : Operand → Bool) (constants : (c : ℕ) → Is
 
     -- a constant is a word, and all else is what its parts give
     folded_in : (e : Term) (v t : ℕ) → EachLeaf IsWordLeaf e → (HasRoom (has_plain_parts e) (parts_temps e) v t → InLowered (lowered_parts rows e v t)) → HasRoom (is_plain e) (temps_of e) v t → InLowered (lowered_term rows e v t)
+    unfolding lowered_term
     folded_in e v t has parts r = by_constant_of (constant_of e) (laws.constant_word e (leaves_word e has)) r
       where
         by_constant_of : (k : Option ℕ) → IsWordConstant k → HasRoom (is_some k || has_plain_parts e) (unless_constant k (parts_temps e)) v t → InLowered (folded k (lowered_parts rows e v t))
@@ -189,6 +191,8 @@ module _ (laws : Laws) (passes : Operand → Bool) (constants : (c : ℕ) → Is
         by_constant_of None word r = parts r
 
     mutual
+      unfolding lowered_term
+
       parts_in : (e : Term) (v t : ℕ) → EachLeaf IsWordLeaf e → EachLeaf InLeaf e → HasRoom (has_plain_parts e) (parts_temps e) v t → InLowered (lowered_parts rows e v t)
       parts_in (Lit c) v t has m r = record { block = refl; form = m }
       parts_in (Truth b) v t has m r = record { block = refl; form = m }

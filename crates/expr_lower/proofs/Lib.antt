@@ -15,3 +15,4 @@ pub mod Contract
 pub mod Appends
 pub mod OperationParts
 pub mod AppendedForms
+pub mod BareForms

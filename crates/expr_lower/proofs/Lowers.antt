@@ -106,6 +106,7 @@ module _ (laws : Laws) (rows words : List ℕ) (inputs : List Input) where
   -- ---- expressions that aren't constant
 
   unfolded : (e : Term) (v t : ℕ) → constant_of e ≡ None → lowered_term rows e v t ≡ lowered_parts rows e v t
+  unfolding lowered_term
   unfolded e v t none = ap (λ k. folded k (lowered_parts rows e v t)) none
 
   plain_parts_comes : (e : Term) (v t top : ℕ) (env : List ℕ) → constant_of e ≡ None → IsTrue (has_plain_parts e) → Ready rows words inputs e v t top env → IsLoweredTo rows words inputs e (lowered_parts rows e v t) v t top env
@@ -123,6 +124,7 @@ module _ (laws : Laws) (rows words : List ℕ) (inputs : List Input) where
   as_minus l v h = ap (λ b. if b then as_word (minus (operand_in l.form v)) else in_target (join (operand_block l v) (set v (minus (Var v))))) h
 
   minus_comes : (a : Term) (v t top : ℕ) (env : List ℕ) (plain : Bool) → is_plain a ≡ plain → constant_of (term.Neg a) ≡ None → Ready rows words inputs (term.Neg a) v t top env → Ready rows words inputs a v t top env → IsLowered rows words inputs a v t top env → IsLoweredTo rows words inputs (term.Neg a) (lowered_parts rows (term.Neg a) v t) v t top env
+  unfolding lowered_term
   minus_comes a v t top env true is none ready part h = plain_parts_comes (term.Neg a) v t top env none is ready
   minus_comes a v t top env false is none ready part h =
       let l : Lowered = lowered_term rows a v t in
@@ -138,6 +140,7 @@ module _ (laws : Laws) (rows words : List ℕ) (inputs : List Input) where
           (laws.minus_value inputs (Var v) x env' (ap (λ w. operand_value inputs w env') (sym (no_word l.form v bare)) ∙ held.0 env' part.in_place refl))
 
   not_comes : (a : Term) (v t top : ℕ) (env : List ℕ) → Ready rows words inputs a v t top env → IsLowered rows words inputs a v t top env → IsLoweredTo rows words inputs (term.Not a) (lowered_parts rows (term.Not a) v t) v t top env
+  unfolding lowered_term
   not_comes a v t top env ready h =
       let l : Lowered = lowered_term rows a v t in
       let c : Test = condition_in l.form v in
@@ -249,6 +252,7 @@ module _ (laws : Laws) (rows words : List ℕ) (inputs : List Input) where
         (laws.division_assigns inputs d (constant_of a) (constant_of b) wa wb x y v env' both.left both.right))))
 
   operation_comes : (o : BinOp) (a b : Term) (v t top : ℕ) (env : List ℕ) → constant_of (term.Bin o a b) ≡ None → t + operation_temps o a b ≤ top → Ready rows words inputs (term.Bin o a b) v t top env → IsLowered rows words inputs a v t top env → LowersRight b t top → IsLoweredTo rows words inputs (term.Bin o a b) (lowered_operation o a b (lowered_term rows a v t) (lowered_term rows b t (t + 1)) v t) v t top env
+  unfolding lowered_term
   operation_comes sign.Add a b v t top env none room ready left lower = arithmetic_comes sign.Add a b v t top env room ready left lower none refl (is_plain a && is_plain b) refl refl refl refl (λ x y. refl)
   operation_comes sign.Sub a b v t top env none room ready left lower = arithmetic_comes sign.Sub a b v t top env room ready left lower none refl (is_plain a && is_plain b) refl refl refl refl (λ x y. refl)
   operation_comes sign.Mul a b v t top env none room ready left lower = arithmetic_comes sign.Mul a b v t top env room ready left lower none refl (is_plain a && is_plain b) refl refl refl refl (λ x y. refl)
@@ -586,6 +590,7 @@ module _ (laws : Laws) (rows words : List ℕ) (inputs : List Input) where
       (multiple_comes o (dividend_of a) e c v t top env equality (divisor_word laws a c has is) (divisor_not_zero a c is) ready part same)
 
   binary_comes : (o : BinOp) (a b : Term) (v t top : ℕ) (env : List ℕ) → constant_of (term.Bin o a b) ≡ None → Ready rows words inputs (term.Bin o a b) v t top env → DividendLowers a → DividendLowers b → (Ready rows words inputs a v t top env → IsLowered rows words inputs a v t top env) → LowersRight b t top → IsLoweredTo rows words inputs (term.Bin o a b) (lowered_parts rows (term.Bin o a b) v t) v t top env
+  unfolding lowered_term
   binary_comes o a b v t top env none ready first second left right =
       by_left (multiple_divisor o a b) (multiple_divisor o b a) refl refl (parts_room (term.Bin o a b) t top none ready.room)
     where
@@ -602,6 +607,8 @@ module _ (laws : Laws) (rows words : List ℕ) (inputs : List Input) where
           operation_comes o a b v t top env none room ready (left (left_ready o a b v t top env room ready)) right
 
   mutual
+    unfolding lowered_term
+
     parts_lower : (e : Term) → LowersTo e
     parts_lower (term.Lit c) v t top env none ready = absurd cc
     parts_lower (term.Truth b) v t top env none ready = absurd cc

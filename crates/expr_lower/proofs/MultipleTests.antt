@@ -95,6 +95,7 @@ dividend_room (term.Bin o x y) c h = refl
 dividend_room _ c h = absurd cc
 
 pub dividend_lowered : (rows : List ℕ) (a : Term) (c v t : ℕ) → divisor_of a ≡ Some c → lowered_dividend rows a v t ≡ lowered_term rows (dividend_of a) v t
+unfolding lowered_term
 dividend_lowered rows (term.Bin o x y) c v t h = refl
 dividend_lowered rows _ c v t h = absurd cc
 
@@ -122,14 +123,17 @@ module _ (o : BinOp) (a b : Term) where
         (by_constant k (λ c. lowered_multiple o (dividend_of b) c (lowered_dividend rows b v t) v) (lowered_operation o a b (lowered_term rows a v t) (lowered_term rows b t (t + 1)) v t))
 
     pub first_lowered : (c : ℕ) → multiple_divisor o a b ≡ Some c → lowered_parts rows (term.Bin o a b) v t ≡ lowered_multiple o (dividend_of a) c (lowered_term rows (dividend_of a) v t) v
+    unfolding lowered_term
     first_lowered c is =
         ap (λ k. binary k (multiple_divisor o b a)) is ∙ ap (λ l. lowered_multiple o (dividend_of a) c l v) (dividend_lowered rows a c v t (multiple_is o a b c is).divisor)
 
     pub second_lowered : (c : ℕ) → multiple_divisor o a b ≡ None → multiple_divisor o b a ≡ Some c → lowered_parts rows (term.Bin o a b) v t ≡ lowered_multiple o (dividend_of b) c (lowered_term rows (dividend_of b) v t) v
+    unfolding lowered_term
     second_lowered c none is =
         ap (λ k. binary k (multiple_divisor o b a)) none ∙ ap (binary None) is ∙ ap (λ l. lowered_multiple o (dividend_of b) c l v) (dividend_lowered rows b c v t (multiple_is o b a c is).divisor)
 
     pub other_lowered : multiple_divisor o a b ≡ None → multiple_divisor o b a ≡ None → lowered_parts rows (term.Bin o a b) v t ≡ lowered_operation o a b (lowered_term rows a v t) (lowered_term rows b t (t + 1)) v t
+    unfolding lowered_term
     other_lowered none neither = ap (λ k. binary k (multiple_divisor o b a)) none ∙ ap (binary None) neither
 
 -- ---- values

@@ -76,6 +76,7 @@ folded_form None l parts h = h
 
 -- the expressions whose parts make them plain are those whose parts make them words
 pub parts_form : (rows : List ℕ) (e : Term) (v t : ℕ) → is_word (lowered_parts rows e v t).form ≡ has_plain_parts e
+unfolding lowered_term
 parts_form rows (Neg a) v t = word_if (is_word (folded (constant_of a) (lowered_parts rows a v t)).form) _ _ ∙ folded_form (constant_of a) (lowered_parts rows a v t) (has_plain_parts a) (parts_form rows a v t)
 parts_form rows (Bin o a b) v t =
     let first = lowered_term rows a v t in
@@ -94,6 +95,7 @@ parts_form rows _ v t = refl
 
 -- the plain expressions are those that are words
 pub plain_form : (rows : List ℕ) (e : Term) (v t : ℕ) → is_word (lowered_term rows e v t).form ≡ is_plain e
+unfolding lowered_term
 plain_form rows e v t = folded_form (constant_of e) (lowered_parts rows e v t) (has_plain_parts e) (parts_form rows e v t)
 
 -- an operation is plain where it is arithmetic on words

@@ -63,6 +63,7 @@ chosen_lowered (Some (suc x)) c a b wa wb v first second f g h = f h
 chosen_lowered None c a b wa wb v first second f g h = absurd cc
 
 parts_lowered : (rows : List ℕ) (e : Term) (v t : ℕ) → IsTrue (has_plain_parts e) → lowered_parts rows e v t ≡ as_word (parts_word rows e)
+unfolding lowered_term
 parts_lowered rows (term.Lit c) v t plain = refl
 parts_lowered rows (term.Truth b) v t plain = refl
 parts_lowered rows (term.Var k) v t plain = refl
@@ -85,6 +86,7 @@ parts_lowered rows (term.If c a b) v t plain =
 parts_lowered rows _ v t plain = absurd cc
 
 pub plain_lowered : (rows : List ℕ) (e : Term) (v t : ℕ) → IsTrue (is_plain e) → lowered_term rows e v t ≡ as_word (plain_word rows e)
+unfolding lowered_term
 plain_lowered rows e v t plain =
     folded_lowered (constant_of e) (lowered_parts rows e v t) (parts_word rows e) (has_plain_parts e) (parts_lowered rows e v t) plain
 

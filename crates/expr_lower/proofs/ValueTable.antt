@@ -7,7 +7,7 @@ use Rattle.list_denotation.specs.Terms.{Term, Lit, Truth, Var, Neg, Not, Bin, An
 use Rattle.list_denotation.specs.Values.{Got, Is, Fails, Trap, value}
 use Rattle.list_denotation.specs.Observation.{Failed}
 use Rattle.loop_ir.specs.Meaning.{Outcome, Runs, Over, run}
-use Rattle.expr_lower.specs.Lowering.{lowered_into}
+use Rattle.expr_lower.specs.Lowering.{lowered_term, lowered_into}
 
 -- the least words, -1, 0, 1 and the greatest
 abbrev ends : List ℕ
@@ -84,7 +84,9 @@ all_agree [] = true
 all_agree (e ∷ es) = for_left e ends && all_agree es
 
 operators_agree : all_agree (of_operators operators) ≡ true
+unfolding lowered_term
 operators_agree = refl
 
 choices_agree : all_agree of_choices ≡ true
+unfolding lowered_term
 choices_agree = refl

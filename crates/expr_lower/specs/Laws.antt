@@ -9,7 +9,8 @@ use Rattle.list_denotation.specs.Terms.{Term}
 use Rattle.list_denotation.specs.Values.{Trap, Is, unless_zero, value}
 use Rattle.loop_ir.specs.Counts.{block_count, block_loops}
 use Rattle.loop_ir.specs.Meaning.{operand_value, test_value}
-use Rattle.loop_ir.specs.Statements.{Operand, Test, Block}
+use Rattle.loop_ir.specs.Leaves.{operand_leaves, test_leaves}
+use Rattle.loop_ir.specs.Statements.{Operand, Const, Test, Block}
 use Rattle.list_denotation.specs.Typing.{is_division}
 use Rattle.expr_forms.specs.FormLeaves.{InVariable, InOperand, InBlock, InLowered, InCondition, IsLeafTest}
 use Rattle.expr_forms.specs.Forms.{Lowered, Condition, condition_of, is_word, operand_block, operand_in, into, lowered_minus, lowered_not, lowered_operation, lowered_multiple, lowered_connective, lowered_choice}
@@ -52,6 +53,16 @@ pub record Laws : Type 0 where
       → test_value inputs (multiple_test o w (magnitude_of c)) env ≡ Is (comparison_truth o (remainder_of x c) 0)
   pub magnitude_few : (w : Operand) (v : ℕ) → block_count (magnitude_block w v) ≤ 3
   pub magnitude_loops : (w : Operand) (v : ℕ) → block_loops (magnitude_block w v) ≡ 0
+  -- of the leaves of tests
+  pub opposite_test_leaves : (passes : Operand → Bool) (t : Test)
+      → IsTrue (test_leaves passes t) → IsTrue (test_leaves passes (opposite t))
+  pub comparison_test_leaves : (passes : Operand → Bool) (o : BinOp) (a b : Operand)
+      → ((c : ℕ) → IsWord c → IsTrue (passes (Const c)))
+      → IsTrue (operand_leaves passes a) → IsTrue (operand_leaves passes b)
+      → IsTrue (test_leaves passes (comparison_test o a b))
+  pub multiple_test_leaves : (passes : Operand → Bool) (o : BinOp) (w : Operand) (c : ℕ)
+      → ((c : ℕ) → IsWord c → IsTrue (passes (Const c))) → IsWord c
+      → IsTrue (operand_leaves passes w) → IsTrue (test_leaves passes (multiple_test o w (magnitude_of c)))
   -- of the leaves of forms
   pub minus_leaves : (passes : Operand → Bool) (a : Lowered) (v : ℕ)
       → IsLeafTest passes → InLowered passes a → (is_word a.form ≡ false → InVariable passes v) → InLowered passes (lowered_minus a v)

@@ -50,7 +50,7 @@ abbrev mutual
   lowered_dividend rows _ v t = as_word (Const 0)
 
 -- an expression
-abbrev pub lowered_term : List ℕ → Term → ℕ → ℕ → Lowered
+unfoldable pub lowered_term : List ℕ → Term → ℕ → ℕ → Lowered
 lowered_term rows e v t = folded (constant_of e) (lowered_parts rows e v t)
 
 -- the statements that put the value of the expression into v

@@ -6,12 +6,15 @@ ghost use Rattle.list_denotation.specs.Counts.{term_nodes, term_depth};
 ghost use Rattle.list_denotation.specs.Literals.{has_words};
 ghost use Rattle.list_denotation.specs.Scopes.{is_bound};
 ghost use Rattle.list_denotation.specs.Terms.{Term};
-ghost use Rattle.loop_ir.specs.DeclaredNames.{Names};
+ghost use Rattle.list_denotation.specs.InputNames.{names_inputs};
+ghost use Rattle.loop_ir.specs.Constants.{block_has_words, operand_has_words, test_has_words};
+ghost use Rattle.loop_ir.specs.DeclaredNames.{Names, test_names};
 ghost use Rattle.loop_ir.specs.Statements.{Set, Nil, Cons};
 ghost use Rattle.state_alloc.specs.Layouts.{IsLaidOut};
-ghost use Rattle.expr_lower.specs.Contract.{Scope, value_block, condition_block, condition_test, operand_statements, operand_word, IsTarget, IsLowerable, PutsValue, TellsTruth, YieldsWord, StandsFor};
+ghost use Rattle.expr_lower.specs.Contract.{Scope, value_block, condition_block, condition_test, operand_statements, operand_word, IsTarget, IsLowerable, PutsValue, TellsTruth, YieldsWord, StandsFor, NamesOnly, TestNamesOnly, WordNamesOnly};
 ghost use Rattle.expr_lower.specs.Costs.{cost, is_plain, temps_of};
 ghost use Rattle.expr_lower.specs.Laws.{Laws};
+ghost use Rattle.expr_forms.specs.Forms.{is_empty};
 ghost use Rattle.expr_lower.specs.PlainWords.{plain_word};
 ghost use Rattle.expr_lower.specs.Scopes.{WordsInPlace, ScopeInPlace, MayNameWords};
 
@@ -99,6 +102,42 @@ pub fn plain_expressions_are_words()
     ensures gives { (rows words : List ℕ) (inputs : List Input) (env : List ℕ) (e : Term)
         → IsTrue (is_plain e) → IsTrue (has_words e) → WordsInPlace rows words inputs env e
         → StandsFor words inputs env e (plain_word rows e) }
+{
+    laws_below();
+}
+
+/// The statements of an expression name its target, its temporaries and its leaves alone, and their
+/// constants are words, wherever the words of the scope stand; so do the words and tests behind
+/// them. A condition without statements doesn't name its scratch variable.
+pub fn expressions_name_their_leaves()
+    ensures values { (scope : Scope) (e : Term) (target : ℕ) → IsTrue (has_words e)
+        → temps_of e ≤ scope.temps → NamesOnly scope e target (value_block scope e target) }
+    ensures conditions { (scope : Scope) (e : Term) (scratch : ℕ) → IsTrue (has_words e)
+        → temps_of e ≤ scope.temps
+        → NamesOnly scope e scratch (condition_block scope e scratch) }
+    ensures tests { (scope : Scope) (e : Term) (scratch : ℕ) → IsTrue (has_words e)
+        → temps_of e ≤ scope.temps
+        → TestNamesOnly scope e scratch (condition_test scope e scratch) }
+    ensures bare_tests { (may : Names) (scope : Scope) (e : Term) (scratch : ℕ)
+        → IsTrue (has_words e) → IsTrue (is_empty (condition_block scope e scratch))
+        → MayNameWords may scope.rows e → IsTrue (names_inputs may.inputs e)
+        → IsTrue (test_names may (condition_test scope e scratch)) }
+    ensures operands { (scope : Scope) (e : Term) (scratch : ℕ) → IsTrue (has_words e)
+        → temps_of e ≤ scope.temps
+        → NamesOnly scope e scratch (operand_statements scope e scratch) }
+    ensures words { (scope : Scope) (e : Term) (scratch : ℕ) → IsTrue (has_words e)
+        → temps_of e ≤ scope.temps
+        → WordNamesOnly scope e scratch (operand_word scope e scratch) }
+    ensures value_constants { (scope : Scope) (e : Term) (target : ℕ) → IsTrue (has_words e)
+        → temps_of e ≤ scope.temps → IsTrue (block_has_words (value_block scope e target)) }
+    ensures condition_constants { (scope : Scope) (e : Term) (scratch : ℕ)
+        → IsTrue (has_words e) → temps_of e ≤ scope.temps
+        → IsTrue (block_has_words (condition_block scope e scratch))
+        × IsTrue (test_has_words (condition_test scope e scratch)) }
+    ensures operand_constants { (scope : Scope) (e : Term) (scratch : ℕ) → IsTrue (has_words e)
+        → temps_of e ≤ scope.temps
+        → IsTrue (block_has_words (operand_statements scope e scratch))
+        × IsTrue (operand_has_words (operand_word scope e scratch)) }
 {
     laws_below();
 }

@@ -9,8 +9,9 @@
 //! `lower_operand` of an operand, whose value is that of a word. The law `expressions_are_lowered`
 //! says all of it of the definitions alone, which is what a proof about more statements cites, with
 //! `scopes_hold_expressions` for expressions over a whole scope. An expression for which `is_plain`
-//! holds is one word and needs no statements, by `plain_expressions_are_words`. Two more laws bound
-//! the cost by the nodes and the temporaries by the depth.
+//! holds is one word and needs no statements, by `plain_expressions_are_words`.
+//! `expressions_name_their_leaves` says what the statements name, wherever the words of the scope
+//! stand. Two more laws bound the cost by the nodes and the temporaries by the depth.
 #![tactic(auto)]
 
 mod laws;
@@ -20,8 +21,8 @@ mod statements;
 mod temporaries;
 
 pub use laws::{
-    costs_are_few, expressions_are_lowered, plain_expressions_are_words, scopes_hold_expressions,
-    temporaries_are_few,
+    costs_are_few, expressions_are_lowered, expressions_name_their_leaves,
+    plain_expressions_are_words, scopes_hold_expressions, temporaries_are_few,
 };
 pub use statements::{lower, lower_into, lower_operand, lower_test};
 pub use temporaries::{is_plain, temps_of};

@@ -44,7 +44,7 @@ fn row_variable(rows: &Words, k: u32) -> u32
 /// Appends the statements of `e`, whose bound words stand in the variables `rows`, and says where
 /// its value is once they have run. A constant is one word.
 #[cycle(terms)]
-#[tactic(auto, using(crate::proofs::Appends::push_steps, crate::proofs::Leaves::word_leaves))]
+#[tactic(auto, using(crate::proofs::Appends::push_steps, crate::proofs::Leaves::word_leaves), unfolding(crate::specs::Lowering::lowered_term))]
 pub fn lower_form(
     alloc: Global,
     e: &Expr,
@@ -69,7 +69,7 @@ pub fn lower_form(
 
 /// Appends the statements of an expression from those of its parts.
 #[cycle(terms)]
-#[tactic(auto, using(crate::proofs::Appends::push_steps))]
+#[tactic(auto, using(crate::proofs::Appends::push_steps), unfolding(crate::specs::Lowering::lowered_term))]
 fn lower_parts(
     alloc: Global,
     e: &Expr,
@@ -108,7 +108,7 @@ fn lower_parts(
 
 /// Appends the statements of a comparison of a remainder with 0, or of any other operation.
 #[cycle(terms)]
-#[tactic(auto, using(crate::proofs::Appends::push_steps, crate::proofs::MultipleTests::binary_steps))]
+#[tactic(auto, using(crate::proofs::Appends::push_steps, crate::proofs::MultipleTests::binary_steps), unfolding(crate::specs::Lowering::lowered_term))]
 fn lower_binary(
     alloc: Global,
     op: BinOp,
@@ -141,7 +141,7 @@ fn lower_binary(
 
 /// Appends the statements of the comparison with 0 of the remainder of `x` by a constant.
 #[cycle(terms)]
-#[tactic(auto, using(crate::proofs::Appends::push_steps))]
+#[tactic(auto, using(crate::proofs::Appends::push_steps), unfolding(crate::specs::Lowering::lowered_term))]
 fn lower_multiple(
     alloc: Global,
     op: BinOp,
@@ -175,7 +175,7 @@ fn lower_multiple(
 
 /// Appends the statements of an operation. The right operand has the first temporary as its target.
 #[cycle(terms)]
-#[tactic(auto, using(crate::proofs::Appends::push_steps))]
+#[tactic(auto, using(crate::proofs::Appends::push_steps), unfolding(crate::specs::Lowering::lowered_term))]
 fn lower_operation(
     alloc: Global,
     op: BinOp,
@@ -220,7 +220,7 @@ fn lower_operation(
 
 /// Appends the statements of `&&` or `||`. Where one part is constant, the other one decides.
 #[cycle(terms)]
-#[tactic(auto, using(crate::proofs::Appends::push_steps))]
+#[tactic(auto, using(crate::proofs::Appends::push_steps), unfolding(crate::specs::Lowering::lowered_term))]
 fn lower_connective(
     alloc: Global,
     o: Connective,
@@ -262,7 +262,7 @@ fn lower_connective(
 
 /// Appends the statements of the branch that a constant condition chooses, and else of a choice.
 #[cycle(terms)]
-#[tactic(auto, using(crate::proofs::Appends::push_steps))]
+#[tactic(auto, using(crate::proofs::Appends::push_steps), unfolding(crate::specs::Lowering::lowered_term))]
 fn lower_choice(
     alloc: Global,
     c: &Expr,
@@ -304,7 +304,7 @@ fn lower_choice(
 
 /// Appends the statements that run one of two branches, which puts its value into the target.
 #[cycle(terms)]
-#[tactic(auto, using(crate::proofs::Appends::push_steps))]
+#[tactic(auto, using(crate::proofs::Appends::push_steps), unfolding(crate::specs::Lowering::lowered_term))]
 fn lower_branches(
     alloc: Global,
     c: &Expr,
@@ -335,7 +335,7 @@ fn lower_branches(
 
 /// Appends the statements of `e`, and gives the test that holds then where its value is true.
 #[cycle(terms)]
-#[tactic(auto, using(crate::proofs::Appends::push_steps))]
+#[tactic(auto, using(crate::proofs::Appends::push_steps), unfolding(crate::specs::Lowering::lowered_term))]
 pub fn lower_condition(
     alloc: Global,
     e: &Expr,
@@ -357,7 +357,7 @@ pub fn lower_condition(
 }
 
 /// Appends the statements of `e`, and gives the word that has its value then.
-#[tactic(auto, using(crate::proofs::Appends::push_steps))]
+#[tactic(auto, using(crate::proofs::Appends::push_steps), unfolding(crate::specs::Lowering::lowered_term))]
 pub fn lower_word(
     alloc: Global,
     e: &Expr,
@@ -382,7 +382,7 @@ pub fn lower_word(
 
 /// Appends the statements that put the value of `e` into the target.
 #[cycle(terms)]
-#[tactic(auto, using(crate::proofs::Appends::push_steps))]
+#[tactic(auto, using(crate::proofs::Appends::push_steps), unfolding(crate::specs::Lowering::lowered_term))]
 pub fn put_value(
     alloc: Global,
     e: &Expr,

@@ -1,176 +1,162 @@
--- The emitted program sees what the lists give: at n turns just what they give at n pulls.
-use Rattle.std.proofs.Common.{◌≡◌, inl, inr, ℕ, zero, suc, ◌+◌, ◌<◌, ◌≤◌, Bool, List, [], ◌∷◌, ◌++◌, length, Some, All, refl, sym, ap, ◌∙◌, subst, append_assoc, append-nil, length-append, arith}
-use Rattle.std.specs.Prelude.{slice_index, slice_get, slice_set, replicate, IsTrue}
-use Rattle.std.proofs.Math.Nat.{mod-eq_of_lt}
-use Rattle.std.proofs.Math.Seq.{get_or-append_seam}
-use Rattle.std.proofs.lemmas.Bool.{lt-ltb, le-ltb}
-use Rattle.std.proofs.lemmas.List.{get_or-set_same, length-set, length-replicate}
-use Rattle.std.proofs.lemmas.Option.{slice_get-get_or}
-use Rattle.strm_num.specs.Words.{IsWord, sum_of}
-use Rattle.list_denotation.specs.declared.event.Event.{Event}
-use Rattle.list_denotation.specs.declared.event.Event.TheVariants as event
+-- The loop program of a machine is one of the pipeline for whose core term the machine stands.
+use Rattle.std.proofs.Common.{◌≡◌, inl, ℕ, zero, suc, ◌+◌, ◌<◌, ◌≤◌, ◌-◌, ◌^◌, List, [], length, Option, Some, None, refl, sym, ap, subst, ◌∙◌, arith, ltb-true}
+use Rattle.std.specs.Prelude.{IsTrue, nat_lt}
+use Rattle.strm_num.proofs.Truths.{both_true}
 use Rattle.list_denotation.specs.declared.input.Input.{Input}
-use Rattle.list_denotation.specs.Terms.{Finish, Print, Pipeline}
-use Rattle.list_denotation.specs.Inputs.{items_in, Fits}
-use Rattle.list_denotation.specs.Values.{Got, Is, Fails}
-use Rattle.list_denotation.specs.Rows.{Rows, Row, unless_broken, firsts, single_rows, map_rows}
-use Rattle.list_denotation.specs.Denotation.{denotation}
-use Rattle.list_denotation.specs.Observation.{Done, Going, Seen, print_rows, row_events, finish_rows, observation}
+use Rattle.list_denotation.specs.declared.input.InputKind.{InputKind}
+use Rattle.list_denotation.specs.declared.kind.Kind.{Kind}
+use Rattle.list_denotation.specs.declared.stream.Stream.{Stream}
+use Rattle.list_denotation.specs.declared.terminal.Terminal.{Terminal}
+use Rattle.list_denotation.specs.Copies.{pipe_of, finish_of}
+use Rattle.list_denotation.specs.Counts.{depth, most_vars}
 use Rattle.list_denotation.specs.Far.{Far}
-use Rattle.list_denotation.specs.Work.{row_count, work}
-use Rattle.loop_ir.specs.Statements.{Var, Len, Less, Nil}
-use Rattle.loop_ir.specs.Meaning.{Outcome, Runs, Over, after, then_do, on_test, test_value, turns, run, seen_of, meaning}
-use Rattle.loop_ir.proofs.Joins.{after_nothing}
-use Rattle.loop_emit.specs.Built.{is_built_finish}
-use Rattle.loop_emit.specs.Chains.{IsChain}
-use Rattle.loop_emit.specs.Emission.{source_of, stream_temps, next_var, turn_block, routine_for}
-use Rattle.loop_emit.proofs.Assignments.{AssignsChain}
-use Rattle.loop_emit.proofs.ChainRows.{row_from, source_rows, denotation_is, work_is}
-use Rattle.loop_emit.proofs.RowVariables.{two_below}
-use Rattle.loop_emit.proofs.Turn.{TurnComes, turned}
-use Rattle.loop_emit.proofs.Variables.{input_words}
+use Rattle.list_denotation.specs.InputNames.{declared_inputs}
+use Rattle.list_denotation.specs.Inputs.{Fits}
+use Rattle.list_denotation.specs.Literals.{pipe_has_words, finish_has_words, program_has_words}
+use Rattle.list_denotation.specs.Observation.{finish_rows, observation}
+use Rattle.list_denotation.specs.Rows.{Rows}
+use Rattle.list_denotation.specs.Terms.{Term, Finish, Fold, Print, Pipeline}
+use Rattle.list_denotation.specs.Typing.{stream_kinds, has_kinds, is_typed}
+use Rattle.list_denotation.specs.Work.{work}
+use Rattle.denotation_laws.specs.StreamScopes.{FinishReadsScope}
+use Rattle.denotation_laws.specs.Widths.{stream_width}
+use Rattle.loop_ir.specs.Meaning.{meaning}
+use Rattle.loop_ir.specs.Statements.{Routine}
+use Rattle.loop_ir.specs.WellFormed.{IsWellFormed}
+use Rattle.stateful_core.specs.CoreRows.{core_rows}
+use Rattle.stateful_core.specs.CoreTerms.{Actions, CoreTerm, Lin}
+use Rattle.stateful_core.specs.CoreWork.{core_work}
+use Rattle.stateful_core.specs.MostWords.{most_words}
+use Rattle.stateful_core.specs.WellFormed.{is_sound_core}
+use Rattle.turn_blocks.specs.TurnContract.{HasWordInputs}
+use Rattle.turn_blocks.specs.TurnBlocks.{turn_acts}
+use Rattle.loop_emit.specs.CoreCondition.{IsCoreFor}
+use Rattle.loop_emit.specs.Emission as emission
+use Rattle.loop_emit.specs.Emission.{routine_for}
+use Rattle.loop_emit.specs.EmissionRoom.{HasRoom}
+use Rattle.loop_emit.specs.Headline.{IsEmitted}
+use Rattle.loop_emit.specs.Laws.{Laws}
+use Rattle.zip_linearise.specs.MachinePromise.{IsMachineOf}
+use Rattle.loop_emit.proofs.MachineConstants.{routine_constants}
+use Rattle.loop_emit.proofs.MachineNames.{FinishNames, routine_names}
+use Rattle.loop_emit.proofs.MachineParts.{IsEmittable}
+use Rattle.loop_emit.proofs.MachineRoom.{room_for}
+use Rattle.loop_emit.proofs.MachineRuns.{meaning_is}
+use Rattle.loop_emit.proofs.VariableCount.{few_variables}
 
-item_at : (items before : List ℕ) (x : ℕ) (rest : List ℕ) → items ≡ before ++ (x ∷ rest) → slice_get items (length before) ≡ Some x
-item_at items before x rest e =
-    let within : length before < length (before ++ (x ∷ rest)) = omega (arith, length-append before (x ∷ rest)) in
-    ap (λ l. slice_get l (length before)) e
-    ∙ slice_get-get_or (before ++ (x ∷ rest)) (length before) 0 within
-    ∙ ap Some (get_or-append_seam before x rest 0)
+-- ---- runs with more turns
 
-item_word : (before : List ℕ) (x : ℕ) (rest : List ℕ) → All IsWord (before ++ (x ∷ rest)) → IsWord x
-item_word before x rest all =
-    subst IsWord (get_or-append_seam before x rest 0) (all (length before) 0 (omega (arith, length-append before (x ∷ rest))))
+more_turns : Laws → (q : Routine) (inputs : List Input) (m k : ℕ) → Far (meaning q inputs m) (meaning q inputs (m + k))
+more_turns laws q inputs m zero = let same : m ≡ m + 0 = omega arith in inl (ap (meaning q inputs) same)
+more_turns laws q inputs m (suc k) =
+    let next : m + k + 1 ≡ m + suc k = omega arith in
+    subst (λ n. Far (meaning q inputs m) (meaning q inputs n)) next
+    (laws.far_transitive (meaning q inputs m) (meaning q inputs (m + k)) (meaning q inputs (m + k + 1)) (more_turns laws q inputs m k) (laws.far_run q inputs (m + k)))
 
-events_more : (row : List ℕ) (rest : List Event) → row_events row [] ++ rest ≡ row_events row rest
-events_more [] rest = refl
-events_more (x ∷ row) rest = ap (λ e. event.Emit x ∷ e) (events_more row rest)
+later : Laws → (q : Routine) (inputs : List Input) (m n : ℕ) → m ≤ n → Far (meaning q inputs m) (meaning q inputs n)
+later laws q inputs m n le =
+    let same : m + (n - m) ≡ n = omega (arith, le) in
+    subst (λ k. Far (meaning q inputs m) (meaning q inputs k)) same (more_turns laws q inputs m (n - m))
 
-seen_after : (before : List Event) (o : Outcome) → seen_of (after before o) ≡ record { events = before ++ (seen_of o).events; standing = (seen_of o).standing }
-seen_after before (Runs events env left) = refl
-seen_after before (Over events standing) = refl
+has_word_inputs : Laws → (kinds : List InputKind) (inputs : List Input) → Fits inputs kinds → HasWordInputs inputs
+has_word_inputs laws kinds inputs fits = record {
+  ints = λ k. laws.ints kinds inputs k fits;
+  items = λ k. laws.items kinds inputs k fits;
+  lengths = λ k. let few = laws.few_items kinds inputs k fits in omega (arith, few);
+}
 
--- nothing follows the loop
-seen_at_end : (inputs : List Input) (o : Outcome) → seen_of (then_do o (run inputs Nil)) ≡ seen_of o
-seen_at_end inputs (Runs events env left) = ap (λ (e : List Event). record { events = e; standing = Done }) (append-nil events)
-seen_at_end inputs (Over events standing) = refl
+some_kinds : (o : Option (List Kind)) → IsTrue (has_kinds o) → (ks : List Kind) × (o ≡ Some ks)
+some_kinds None h = absurd cc
+some_kinds (Some ks) h = (ks, refl)
 
-module _ (inputs : List Input) (p : Pipeline) (fits : Fits inputs p.inputs) (chain : IsChain p.stream) (each : AssignsChain (stream_temps p.stream) p.stream) (built : IsTrue (is_built_finish p.terminal)) where
-  abbrev items : List ℕ
-  items = items_in (slice_get inputs (source_of p.stream))
+finish_names : (kinds : List InputKind) (width : ℕ) (t : Finish) → FinishReadsScope (declared_inputs kinds) width t → FinishNames kinds t
+finish_names kinds width (Fold seed next) reads = (reads.seed_reads.reads.names, reads.next_reads.names)
+finish_names kinds width Print reads = tt
 
-  abbrev temps : ℕ
-  temps = stream_temps p.stream
+-- ---- the program of a machine
 
-  abbrev row : List ℕ → Got (List ℕ)
-  row = row_from inputs p.stream
+module _ (laws : Laws) (kinds : List InputKind) (s : Stream) (t : Terminal) (typed : IsTrue (is_typed kinds s t)) (words : IsTrue (program_has_words s t)) (c : CoreTerm) where
+  abbrev p : Pipeline
+  p = record { inputs = kinds; stream = pipe_of s; terminal = finish_of t }
 
-  abbrev guard : List ℕ → Got Bool
-  guard = test_value inputs (Less (Var temps) (Len (source_of p.stream)))
+  module _ (core : IsCoreFor p c) (init : List Term) (guard : Term) (acts : Actions) (item : List Term) (machine : IsMachineOf c (Lin 0 init guard acts item)) where
+    -- the terminal reads rows of the machine's width
+    reads : FinishReadsScope (declared_inputs kinds) (length item) (finish_of t)
+    reads =
+        let row = some_kinds (stream_kinds kinds [] (pipe_of s)) (laws.kinds kinds s t typed) in
+        let width = laws.widths kinds [] row.0 (pipe_of s) row.1 (both_true (pipe_has_words (pipe_of s)) (finish_has_words (finish_of t)) words).0 in
+        let same : stream_width (pipe_of s) ≡ length item = width ∙ sym (core.width row.0 row.1) ∙ sym machine.width in
+        subst (λ n. FinishReadsScope (declared_inputs kinds) n (finish_of t)) same (laws.scopes kinds s t typed words).1
 
-  abbrev body : List ℕ → ℕ → Outcome
-  body = run inputs (turn_block temps p.stream p.terminal)
+    pub is_emittable : IsEmittable (declared_inputs kinds) init guard acts item (finish_of t)
+    is_emittable = record {
+      sound = (both_true (is_sound_core (Lin 0 init guard acts item)) (nat_lt (most_words (Lin 0 init guard acts item) 0) (2 ^ 32)) machine.well_formed).0;
+      numbers = machine.numbers core.numbers;
+      reads = reads;
+    }
 
-  printed_end : (n : ℕ) → print_rows (map_rows row (firsts n [])) ≡ record { events = []; standing = Done }
-  printed_end zero = refl
-  printed_end (suc n) = refl
+    vars_few : emission.machine_vars init guard acts item (finish_of t) ≤ most_vars p
+    vars_few =
+        let few = few_variables laws (declared_inputs kinds) init guard acts item (finish_of t) (depth p) is_emittable (omega arith) in
+        let machine_few = machine.words (depth p) in
+        let core_few = core.words in
+        omega (arith, few, machine_few, core_few)
 
-  over : (most : ℕ) (env : List ℕ) (left : ℕ) → length items ≤ slice_index env temps → turns most guard body env left ≡ Runs [] env left
-  over zero env left le = rw (le-ltb (slice_index env temps) (length items) le) refl
-  over (suc most) env left le = rw (le-ltb (slice_index env temps) (length items) le) refl
+    -- the row has few words too
+    row_small : length item < 2 ^ 32
+    row_small =
+        let within = ltb-true (most_words (Lin 0 init guard acts item) 0) (2 ^ 32) (both_true (is_sound_core (Lin 0 init guard acts item)) (nat_lt (most_words (Lin 0 init guard acts item) 0) (2 ^ 32)) machine.well_formed).1 in
+        omega (arith, within)
 
-  going : (most : ℕ) (env : List ℕ) → slice_index env temps < length items → turns most guard body env 0 ≡ Over [] Going
-  going zero env lt = rw (lt-ltb (slice_index env temps) (length items) lt) refl
-  going (suc most) env lt = rw (lt-ltb (slice_index env temps) (length items) lt) refl
+    pub vars_small : emission.machine_vars init guard acts item (finish_of t) < 2 ^ 32
+    vars_small =
+        let limits = laws.limits kinds s t typed in
+        let ops = limits.few_ops in
+        let shallow = limits.small_stream_depth in
+        let finish_shallow = limits.small_finish_depth in
+        let few = vars_few in
+        omega (arith, few, ops, shallow, finish_shallow)
 
-  -- what is seen of a turn, and of those after it
-  turn_seen : (g : Got (List ℕ)) (more : Rows) (env : List ℕ) (most left : ℕ) → TurnComes inputs p.inputs fits temps p.stream p.terminal env g → ((env' : List ℕ) → length env' ≡ length env → slice_index env' temps ≡ sum_of (slice_index env temps) 1 → seen_of (turns most guard body env' left) ≡ print_rows more) → seen_of (then_do (body env left) (turns most guard body)) ≡ print_rows (unless_broken g (λ ws. Row ws more))
-  turn_seen (Is words) more env most left turn again =
-      let events = row_events words [] in
-      ap (λ o. seen_of (then_do o (turns most guard body))) (turn.runs left)
-      ∙ seen_after events (turns most guard body turn.env' left)
-      ∙ ap (λ (s : Seen). record { events = events ++ s.events; standing = s.standing }) (again turn.env' turn.same turn.index)
-      ∙ ap (λ (e : List Event). record { events = e; standing = (print_rows more).standing }) (events_more words (print_rows more).events)
-  turn_seen (Fails f) more env most left turn again = ap (λ o. seen_of (then_do o (turns most guard body))) (turn left)
+    pub has_room : HasRoom (emission.machine_temps init guard acts item (finish_of t)) init guard (turn_acts acts item) (length item) (finish_of t)
+    has_room = room_for laws (declared_inputs kinds) init guard acts item (finish_of t) is_emittable vars_small row_small
 
-  -- what is seen of the turns over the items that are left
-  turns_seen : (rest before env : List ℕ) (most left : ℕ) → items ≡ before ++ rest → left ≤ most → slice_index env temps ≡ length before → next_var temps p.stream ≤ length env → seen_of (turns most guard body env left) ≡ print_rows (map_rows row (firsts left (single_rows rest)))
-  turns_seen [] before env most left split le index room =
-      ap seen_of (over most env left (omega (arith, ap length split, length-append before [], index))) ∙ sym (printed_end left)
-  turns_seen (x ∷ rest) before env most zero split le index room =
-      ap seen_of (going most env (omega (arith, ap length split, length-append before (x ∷ rest), index)))
-  turns_seen (x ∷ rest) before env zero (suc left) split le index room = absurd (omega (arith, le))
-  turns_seen (x ∷ rest) before env (suc most) (suc left) split le index room =
-      let input = input_words inputs p.inputs (source_of p.stream) fits in
-      let inside : slice_index env temps < length items = omega (arith, ap length split, length-append before (x ∷ rest), index) in
-      let item : slice_get items (slice_index env temps) ≡ Some x = ap (slice_get items) index ∙ item_at items before x rest split in
-      let word = item_word before x rest (subst (All IsWord) split input.items) in
-      let longer : length (before ++ (x ∷ [])) ≡ length before + 1 = omega (arith, length-append before (x ∷ [])) in
-      let few = input.few in
-      ap (λ b. seen_of (on_test (Is b) (then_do (body env left) (turns most guard body)) (Runs [] env (suc left)))) (lt-ltb (slice_index env temps) (length items) inside)
-      ∙ turn_seen (row (x ∷ [])) (map_rows row (firsts left (single_rows rest))) env most left
-      (turned inputs p.inputs fits temps p.stream p.terminal env x chain each built word item room)
-      (λ env' same next.
-      turns_seen rest (before ++ (x ∷ [])) env' most left (split ∙ sym (append_assoc before (x ∷ []) rest)) (omega (arith, le))
-      (next ∙ mod-eq_of_lt (omega (arith, inside, few)) ∙ omega (arith, index, longer)) (omega (arith, room, same)))
+    abbrev pub routine : Routine
+    routine = routine_for init guard acts item (finish_of t) kinds
 
-  finished_is : (t : Finish) (rows : Rows) → IsTrue (is_built_finish t) → finish_rows t inputs rows ≡ print_rows rows
-  finished_is Print rows is = refl
-  finished_is _ rows is = absurd cc
+    pub well_formed : IsWellFormed routine
+    well_formed =
+        let few = (laws.limits kinds s t typed).few_inputs in
+        record {
+          few = omega (arith, few);
+          names = routine_names laws kinds init guard acts item (finish_of t) is_emittable vars_small (machine.names (declared_inputs kinds) core.names) (finish_names kinds (length item) (finish_of t) reads);
+          constants = routine_constants laws (declared_inputs kinds) init guard acts item (finish_of t) is_emittable vars_small;
+        }
 
-  pub meaning_is : (n : ℕ) → meaning (routine_for p) inputs n ≡ print_rows (map_rows row (firsts n (source_rows inputs p.stream)))
-  meaning_is n =
-      let zeros : List ℕ = replicate (next_var temps p.stream) 0 in
-      let start : List ℕ = slice_set zeros temps 0 in
-      let two = two_below temps p.stream in
-      let size : length zeros ≡ next_var temps p.stream = length-replicate (next_var temps p.stream) 0 in
-      let same : length start ≡ length zeros = length-set zeros temps 0 in
-      let inside : temps < length zeros = omega (arith, two, size) in
-      let room : next_var temps p.stream ≤ length start = omega (arith, size, same) in
-      ap seen_of (after_nothing (then_do (turns n guard body start n) (run inputs Nil)))
-      ∙ seen_at_end inputs (turns n guard body start n)
-      ∙ turns_seen items [] start n n refl (omega arith) (get_or-set_same zeros temps 0 0 inside) room
+    abbrev rows : List Input → ℕ → Rows
+    rows inputs n = core_rows (Lin 0 init guard acts item) [] inputs n
 
-  pub observation_is : (n : ℕ) → observation p inputs n ≡ print_rows (map_rows row (firsts n (source_rows inputs p.stream)))
-  observation_is n =
-      finished_is p.terminal (denotation p.stream [] inputs n) built ∙ ap print_rows (denotation_is inputs p.stream n chain)
+    shows : (inputs : List Input) (n : ℕ) → Fits inputs kinds → meaning routine inputs n ≡ finish_rows (finish_of t) inputs (rows inputs n)
+    shows inputs n fits =
+        meaning_is laws (declared_inputs kinds) init guard acts item (finish_of t) is_emittable vars_small inputs (has_word_inputs laws kinds inputs fits) kinds n
 
--- ---- as far
+    observed : (inputs : List Input) (n : ℕ) → Fits inputs kinds → finish_rows (finish_of t) inputs (core_rows c [] inputs n) ≡ observation p inputs n
+    observed inputs n fits = ap (finish_rows (finish_of t) inputs) (core.rows inputs n fits)
 
-far_row : (r : List ℕ) (o u : Rows) → Far (print_rows o) (print_rows u) → Far (print_rows (Row r o)) (print_rows (Row r u))
-far_row r o u (inl e) = inl (ap (λ (s : Seen). record { events = row_events r s.events; standing = s.standing }) e)
-far_row r o u (inr h) = inr (record {
-  going = h.going;
-  rest = h.rest;
-  prefix =
-      ap (row_events r) h.prefix ∙ sym (events_more r ((print_rows o).events ++ h.rest))
-      ∙ sym (append_assoc (row_events r []) (print_rows o).events h.rest)
-      ∙ ap (λ e. e ++ h.rest) (events_more r (print_rows o).events);
-})
+    no_further : (inputs : List Input) (n : ℕ) → Fits inputs kinds → Far (meaning routine inputs n) (observation p inputs n)
+    no_further inputs n fits =
+        subst (λ o. Far o (observation p inputs n)) (sym (shows inputs n fits))
+        (subst (Far (finish_rows (finish_of t) inputs (rows inputs n))) (observed inputs n fits)
+        (laws.far_finished (finish_of t) inputs (rows inputs n) (core_rows c [] inputs n) (machine.no_further [] inputs n (sym core.scope))))
 
-far_mapped : (g : Got (List ℕ)) (o u : Rows) → Far (print_rows o) (print_rows u) → Far (print_rows (unless_broken g (λ s. Row s o))) (print_rows (unless_broken g (λ s. Row s u)))
-far_mapped (Is s) o u h = far_row s o u h
-far_mapped (Fails f) o u h = inl refl
+    as_far : (inputs : List Input) (n : ℕ) → Fits inputs kinds → Far (observation p inputs n) (meaning routine inputs (work p inputs n))
+    as_far inputs n fits =
+        let turns = core_work c [] inputs n in
+        let far : Far (observation p inputs n) (meaning routine inputs turns) =
+        subst (λ u. Far (observation p inputs n) u) (sym (shows inputs turns fits))
+        (subst (λ o. Far o (finish_rows (finish_of t) inputs (rows inputs turns))) (observed inputs n fits)
+        (laws.far_finished (finish_of t) inputs (core_rows c [] inputs n) (rows inputs turns) (machine.as_far [] inputs n (sym core.scope)))) in
+        laws.far_transitive (observation p inputs n) (meaning routine inputs turns) (meaning routine inputs (work p inputs n)) far
+        (later laws routine inputs turns (work p inputs n) (core.work inputs n fits))
 
--- one turn more than there are rows shows how they end
-one_more : (f : List ℕ → Got (List ℕ)) (rows : List (List ℕ)) (n : ℕ) → Far (print_rows (map_rows f (firsts n rows))) (print_rows (map_rows f (firsts (row_count (firsts n rows) + 1) rows)))
-one_more f [] zero = inl refl
-one_more f [] (suc n) = inl refl
-one_more f (r ∷ rows) zero = inr (record { going = refl; rest = _; prefix = refl })
-one_more f (r ∷ rows) (suc n) =
-    let k = row_count (firsts n rows) in
-    let e : suc (k + 1) ≡ k + 1 + 1 = omega arith in
-    subst (λ m. Far (print_rows (map_rows f (Row r (firsts n rows)))) (print_rows (map_rows f (firsts m (r ∷ rows))))) e
-    (far_mapped (f r) (map_rows f (firsts n rows)) (map_rows f (firsts (k + 1) rows)) (one_more f rows n))
-
-module _ (p : Pipeline) (chain : IsChain p.stream) (each : AssignsChain (stream_temps p.stream) p.stream) (built : IsTrue (is_built_finish p.terminal)) where
-  pub no_further : (inputs : List Input) (n : ℕ) → Fits inputs p.inputs → Far (meaning (routine_for p) inputs n) (observation p inputs n)
-  no_further inputs n fits = inl (meaning_is inputs p fits chain each built n ∙ sym (observation_is inputs p fits chain each built n))
-
-  pub as_far : (inputs : List Input) (n : ℕ) → Fits inputs p.inputs → Far (observation p inputs n) (meaning (routine_for p) inputs (work p inputs n))
-  as_far inputs n fits =
-      let rows = source_rows inputs p.stream in
-      let f = row_from inputs p.stream in
-      subst (λ (o : Seen). Far o (meaning (routine_for p) inputs (work p inputs n))) (sym (observation_is inputs p fits chain each built n))
-      (subst (λ (u : Seen). Far (print_rows (map_rows f (firsts n rows))) u)
-      (ap (λ m. print_rows (map_rows f (firsts m rows))) (sym (work_is inputs p.stream n chain)) ∙ sym (meaning_is inputs p fits chain each built (work p inputs n)))
-      (one_more f rows n))
+    pub emitted : IsEmitted p routine
+    emitted = record { no_further = no_further; as_far = as_far; vars = vars_few; params = refl }

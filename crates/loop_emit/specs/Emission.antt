@@ -1,82 +1,135 @@
--- The loop program of a pipeline that is built: one loop over the array, in which each map sets its row's
--- variables. The last case of a definition stands for all that isn't built, of which nothing is promised.
-use Rattle.std.specs.Prelude.{ℕ, ◌+◌, max, List, [], ◌∷◌, length}
+-- The loop program of a machine, which is a Lin in the scope of no words: one loop over its state. A turn of the loop is a
+-- turn of the machine, and does with the row what the terminal does.
+use Rattle.std.specs.Prelude.{ℕ, ◌+◌, max, Bool, true, List, [], ◌∷◌, length, None, if◌then◌else◌}
 use Rattle.std.specs.List.{range_with_len}
-use Rattle.list_denotation.specs.Terms.{Term, Pipe, Array, Map, Finish, Print, Pipeline}
-use Rattle.loop_ir.specs.declared.syntax.WOp.TheVariants as op
-use Rattle.loop_ir.specs.Statements.{Const, Var, Len, Bin, Less, Set, Read, Loop, Emit, EndRow, Block, Nil, Cons, Routine, join}
+use Rattle.list_denotation.specs.declared.input.InputKind.{InputKind}
+use Rattle.list_denotation.specs.Scopes.{all_bound}
+use Rattle.list_denotation.specs.Terms.{Term, Finish, Fold, Print}
+use Rattle.loop_ir.specs.Statements.{Const, Var, Same, Not, Loop, Block, Nil, Cons, Routine, join}
 use Rattle.expr_lower.specs.Costs.{temps_of}
-use Rattle.expr_lower.specs.Lowering.{lowered_into}
+use Rattle.expr_forms.specs.Forms.{Condition, is_empty}
+use Rattle.expr_lower.specs.Lowering.{lowered_into, lowered_test}
+use Rattle.stateful_core.specs.CoreTerms.{Actions}
+use Rattle.turn_blocks.specs.Consumers.{print_block, print_tail, print_stop, fold_tail, fold_stop}
+use Rattle.turn_blocks.specs.Pieces.{Piece, Tail, behind_scratch}
+use Rattle.turn_blocks.specs.Temporaries.{row_temps, acts_temps}
+use Rattle.turn_blocks.specs.TurnBlocks.{acts_piece, turn_acts}
 
--- ---- variables: first the temporaries, then the index, the item, and the words of each map
+-- ---- the terminal, which holds words in these variables from row to row
 
--- the temporaries of a row, and of all rows of a stream
-abbrev pub row_temps : List Term → ℕ
-row_temps [] = 0
-row_temps (e ∷ es) = max (temps_of e) (row_temps es)
+abbrev pub finish_temps : Finish → ℕ
+finish_temps (Fold seed next) = max (row_temps seed) (row_temps next)
+finish_temps Print = 0
 
-abbrev pub stream_temps : Pipe → ℕ
-stream_temps (Array k) = 0
-stream_temps (Map of body) = max (stream_temps of) (row_temps body)
-stream_temps _ = 0
+-- the expressions of the words that it holds first read no bound word
+abbrev pub seed_is_bound : Finish → Bool
+seed_is_bound (Fold seed next) = all_bound 0 seed
+seed_is_bound Print = true
 
-module _ (temps : ℕ) where
-  -- the first variable that the statements of a stream leave free
-  abbrev pub next_var : Pipe → ℕ
-  next_var (Array k) = temps + 2
-  next_var (Map of body) = next_var of + length body
-  next_var _ = temps + 2
+-- how many words it holds
+abbrev pub held_count : Finish → ℕ
+held_count (Fold seed next) = length seed
+held_count Print = 0
 
-  -- the variables of a stream's row
-  abbrev pub row_vars : Pipe → List ℕ
-  row_vars (Array k) = (temps + 1) ∷ []
-  row_vars (Map of body) = range_with_len (next_var of) (length body)
-  row_vars _ = []
+-- what it does with a row of this width
+abbrev pub finish_tail : Finish → List ℕ → ℕ → Tail
+finish_tail (Fold seed next) held width = fold_tail held 0 width next
+finish_tail Print held width = print_tail width
 
--- ---- statements
+-- the end of the run where the stream stops inside a turn
+abbrev pub finish_stop : Finish → List ℕ → Block
+finish_stop (Fold seed next) held = fold_stop held
+finish_stop Print held = print_stop
 
--- the words of a row are set in the variables from `next` on; the temporaries are those from 0 on
-abbrev pub assignments : List Term → List ℕ → ℕ → Block
-assignments [] vars next = Nil
-assignments (e ∷ es) vars next = join (lowered_into vars e next 0) (assignments es vars (next + 1))
+-- what stands behind the loop
+abbrev pub finish_ending : Finish → List ℕ → Block
+finish_ending (Fold seed next) held = print_block held
+finish_ending Print held = Nil
 
-module _ (temps : ℕ) where
-  -- the statements that set a row of a stream, from the index of the item
-  abbrev pub row_block : Pipe → Block
-  row_block (Array k) = Cons (Read (temps + 1) k (Var temps)) Nil
-  row_block (Map of body) = join (row_block of) (assignments body (row_vars temps of) (next_var temps of))
-  row_block _ = Nil
+-- ---- openings, and the guard of the loop
 
-  -- the index goes on to the next item
-  abbrev pub step_block : Block
-  step_block = Cons (Set temps (Bin op.Add (Var temps) (Const 1))) Nil
+-- each of these expressions is put into a variable, from one on, in order. The temporaries are those from 0 on
+abbrev pub openings : List Term → ℕ → Block
+openings [] v = Nil
+openings (e ∷ es) v = join (lowered_into [] e v 0) (openings es (v + 1))
 
--- the array that a stream goes over
-abbrev pub source_of : Pipe → ℕ
-source_of (Array k) = k
-source_of (Map of body) = source_of of
-source_of _ = 0
+abbrev pub finish_openings : Finish → ℕ → Block
+finish_openings (Fold seed next) v = openings seed v
+finish_openings Print v = Nil
 
--- a row is printed, once all its words are there
-abbrev pub print_block : List ℕ → Block
-print_block [] = Cons EndRow Nil
-print_block (v ∷ vs) = Cons (Emit (Var v)) (print_block vs)
+-- a condition without statements is the test of a loop as it stands; else these statements put its value into the variable v
+abbrev pub kept_condition : Condition → Block → ℕ → Condition
+kept_condition c value v = if is_empty c.block then c else record { block = value; test = Not (Same (Var v) (Const 0)) }
 
-abbrev pub finish_block : Finish → List ℕ → Block
-finish_block Print vars = print_block vars
-finish_block _ vars = Nil
+-- the guard of a loop, over words in these variables: the loop has this test, and the statements stand before it and at the end
+-- of each turn
+abbrev pub loop_guard : List ℕ → Term → ℕ → Condition
+loop_guard rows e v = kept_condition (lowered_test rows e v 0) (lowered_into rows e v 0) v
 
--- one turn of the loop
-abbrev pub turn_block : ℕ → Pipe → Finish → Block
-turn_block temps s t = join (row_block temps s) (join (finish_block t (row_vars temps s)) (step_block temps))
+-- a loop with this guard, whose turns have these statements
+abbrev pub guarded_loop : List ℕ → Term → ℕ → Block → Block
+guarded_loop rows e v turn =
+    join (loop_guard rows e v).block
+    (Cons (Loop (loop_guard rows e v).test (join turn (loop_guard rows e v).block)) Nil)
 
-abbrev pub routine_block : ℕ → Pipe → Finish → Block
-routine_block temps s t =
-    Cons (Set temps (Const 0)) (Cons (Loop (Less (Var temps) (Len (source_of s))) (turn_block temps s t)) Nil)
+-- the first variable behind that of the guard, where there is one
+abbrev pub behind_guard : List ℕ → Term → ℕ → ℕ
+behind_guard rows e v = behind_scratch (lowered_test rows e v 0) v
 
-abbrev pub routine_for : Pipeline → Routine
-routine_for p = record {
-  params = p.inputs;
-  vars = next_var (stream_temps p.stream) p.stream;
-  body = routine_block (stream_temps p.stream) p.stream p.terminal;
-}
+-- ---- the program of a machine
+
+-- Its state is `init` first, and `turn` are the acts of a turn, whose row is the last local words, of which there are `width`.
+-- The variables are those of the temporaries, of which there are `temps`, then those of the words that the terminal holds, of
+-- the state, of the value of the guard, and of a turn.
+module _ (temps : ℕ) (init : List Term) (guard : Term) (turn : Actions) (width : ℕ) (terminal : Finish) where
+  abbrev pub held_vars : List ℕ
+  held_vars = range_with_len temps (held_count terminal)
+
+  abbrev pub first_state : ℕ
+  first_state = temps + held_count terminal
+
+  abbrev pub state_vars : List ℕ
+  state_vars = range_with_len first_state (length init)
+
+  abbrev pub guard_var : ℕ
+  guard_var = first_state + length init
+
+  abbrev pub first_local : ℕ
+  first_local = behind_guard state_vars guard guard_var
+
+  abbrev pub machine_guard : Condition
+  machine_guard = loop_guard state_vars guard guard_var
+
+  -- the statements of a turn of the machine, with what is done with its row
+  abbrev pub turn_piece : Piece
+  turn_piece =
+      acts_piece 0 (length init) 0 (finish_stop terminal held_vars) (finish_tail terminal held_vars width) None turn state_vars
+      first_local
+
+  abbrev pub machine_loop : Block
+  machine_loop = guarded_loop state_vars guard guard_var turn_piece.block
+
+  -- one turn of the loop
+  abbrev pub turn_block : Block
+  turn_block = join turn_piece.block machine_guard.block
+
+  abbrev pub loop_block : Block
+  loop_block = join machine_guard.block (Cons (Loop machine_guard.test turn_block) (finish_ending terminal held_vars))
+
+  abbrev pub body_block : Block
+  body_block = join (finish_openings terminal temps) (join (openings init first_state) loop_block)
+
+-- that of a Lin in the scope of no words, with these parts
+module _ (init : List Term) (guard : Term) (acts : Actions) (item : List Term) (terminal : Finish) where
+  abbrev pub machine_temps : ℕ
+  machine_temps = max (row_temps init) (max (temps_of guard) (max (acts_temps acts) (max (row_temps item) (finish_temps terminal))))
+
+  abbrev pub machine_vars : ℕ
+  machine_vars = (turn_piece machine_temps init guard (turn_acts acts item) (length item) terminal).next
+
+  abbrev pub routine_for : List InputKind → Routine
+  routine_for inputs = record {
+    params = inputs;
+    vars = machine_vars;
+    body = body_block machine_temps init guard (turn_acts acts item) (length item) terminal;
+  }

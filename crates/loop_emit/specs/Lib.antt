@@ -1,5 +1,6 @@
-pub mod Built
 pub mod Emission
-pub mod Chains
+pub mod CoreCondition
+pub mod SeenRows
 pub mod Headline
 pub mod Laws
+pub mod EmissionRoom

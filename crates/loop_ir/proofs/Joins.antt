@@ -14,7 +14,7 @@ after_after : (out more : List Event) (o : Outcome) → after out (after more o)
 after_after out more (Runs events env left) = ap (λ e. Runs e env left) (sym (append_assoc out more events))
 after_after out more (Over events standing) = ap (λ e. Over e standing) (sym (append_assoc out more events))
 
-after_then : (out : List Event) (o : Outcome) (go : List ℕ → ℕ → Outcome) → after out (then_do o go) ≡ then_do (after out o) go
+pub after_then : (out : List Event) (o : Outcome) (go : List ℕ → ℕ → Outcome) → after out (then_do o go) ≡ then_do (after out o) go
 after_then out (Runs events env left) go = after_after out events (go env left)
 after_then out (Over events standing) go = refl
 

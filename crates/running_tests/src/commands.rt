@@ -161,7 +161,7 @@ fn what_is_built_of_expressions(rt: HostRuntime) {
 }
 
 /// Whole texts.
-const TEXTS: [(&str, &str); 22] = [
+const TEXTS: [(&str, &str); 25] = [
     ("input a1_: array; array a1_ | map a1_ -> a1_ | print", ""),
     ("input é: array; array é | map x -> x | print", ""),
     ("input a: array; input b: array; array b | print", ""),
@@ -186,19 +186,28 @@ const TEXTS: [(&str, &str); 22] = [
     ),
     ("array a | print", "Unknown at 6"),
     (
-        "input a: array; array a | filter x -> x < 1 | print",
-        "Unbuilt at 0",
+        "input a: array; array a | filter x -> x < 1 | scan 0 with s x -> s + x | print",
+        "",
     ),
     (
-        "input a: array; array a | fold 0 with s x -> s + x",
+        "input a: array; array a | drop 1 | takeWhile x -> x > 0 | fold 0 with s x -> s + x",
+        "",
+    ),
+    (
+        "unfold 0 with i while true yield i next i + 1 | take 3 | print",
+        "",
+    ),
+    (
+        "range(0, 3) | flatMap i -> (range(0, i)) | print",
         "Unbuilt at 0",
     ),
+    ("zip(range(0, 3), range(1, 4)) | print", "Unbuilt at 0"),
     ("input least: array; array least | print", "Syntax at 6"),
     ("input a: array; array a || print", "Syntax at 24"),
     ("input a: array; array a | print | print", "Syntax at 32"),
     ("inputa: array; array a | print", "Syntax at 0"),
     ("", "Syntax at 0"),
-    ("range(0, 3) | print", "Unbuilt at 0"),
+    ("range(0, 3) | print", ""),
     (
         "range(0, 9223372036854775808) | print",
         "NumberTooLarge at 9",

@@ -15,7 +15,7 @@ use Rattle.status_lines.specs.declared.refusals.Refusal.{Refusal}
 use Rattle.status_lines.specs.declared.refusals.RefusalKind.TheVariants.{Unbuilt}
 use Rattle.status_lines.specs.declared.statuses.Status.{Status}
 use Rattle.status_lines.specs.declared.statuses.Status.TheVariants.{Done, Words, Missing, Refused, ReadFault, WriteFault, NoMemory, TooLong}
-use Rattle.loop_emit.specs.Built.{is_built}
+use Rattle.stateful_core.specs.StreamCores.{is_chain}
 use Rattle.strymonas_run.specs.PipelineFile.{IsPipelineFile}
 use Rattle.strymonas_run.specs.Refusals.{IsRefused}
 use Rattle.strymonas_run.specs.ReadOutcomes.{IsOnlyOutcome}
@@ -27,10 +27,10 @@ use Rattle.count_lines.specs.CountLines.{counts_text}
 
 -- ---- what a job takes, and what it writes
 
--- `check` takes every pipeline, and `compile` those that are built so far
+-- `check` takes every pipeline, and `compile` those without `flatMap` and `zip`
 abbrev pub takes : Job → Pipeline → Bool
 takes Check p = true
-takes Compile p = is_built p
+takes Compile p = is_chain p.stream
 
 -- the bytes are the C text of a program of the pipeline
 pub record IsTextOf (p : Pipeline) (c : List ℕ) : Type 0 where

@@ -1,0 +1,4 @@
+pub mod Settings
+pub mod Placed
+pub mod TurnCopies
+pub mod Readiness

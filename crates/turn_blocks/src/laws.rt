@@ -1,0 +1,134 @@
+//! Laws of the definitions. These functions do nothing: their contracts are the laws.
+
+ghost use Rattle.std.specs.Prelude.{◌≡◌, ℕ, ◌+◌, ◌<◌, ◌≤◌, ◌^◌, List, [], ◌++◌, length, None, All, IsTrue};
+ghost use Rattle.list_denotation.specs.declared.input.Input.{Input};
+ghost use Rattle.list_denotation.specs.declared.input.InputKind.{InputKind};
+ghost use Rattle.list_denotation.specs.InputNames.{declared_inputs, is_named_leaf, all_name_inputs};
+ghost use Rattle.list_denotation.specs.Terms.{Term};
+ghost use Rattle.loop_ir.specs.Constants.{block_has_words};
+ghost use Rattle.loop_ir.specs.DeclaredNames.{declared_names, block_names};
+ghost use Rattle.loop_ir.specs.Statements.{Block};
+ghost use Rattle.stateful_core.specs.CoreLeaves.{actions_leaves};
+ghost use Rattle.stateful_core.specs.CoreRows.{core_turn};
+ghost use Rattle.stateful_core.specs.CoreTerms.{Actions};
+ghost use Rattle.stateful_core.specs.MostWords.{actions_words};
+ghost use Rattle.turn_blocks.specs.Consumers.{print_consumer, print_tail, print_stop, fold_consumer, fold_tail, fold_stop, IsFold};
+ghost use Rattle.turn_blocks.specs.Laws.{Laws};
+ghost use Rattle.turn_blocks.specs.Pieces.{Tail};
+ghost use Rattle.turn_blocks.specs.TurnBlocks.{acts_piece, turn_acts};
+ghost use Rattle.turn_blocks.specs.TurnContract.{Consumer, turn_end_of, IsIn, HasWordInputs, Frame, IsTailOf, IsStopOf, TurnRuns, IsTurnLayout, IsTurn};
+
+use denotation_laws::undivided_expressions_have_values;
+use expr_lower::{
+    expressions_are_lowered, expressions_name_their_leaves, plain_expressions_are_words,
+    scopes_hold_expressions,
+};
+
+/// What expr_lower and denotation_laws promise of expressions.
+fn laws_below()
+    ensures { Laws }
+{
+    expressions_are_lowered();
+    expressions_name_their_leaves();
+    plain_expressions_are_words();
+    scopes_hold_expressions();
+    undivided_expressions_have_values();
+}
+
+/// The statements of a turn do what the turn does, and then with its row what is done with rows:
+/// they lead to the next state, with the events of the row; they end the run where the stream
+/// stops, with what is seen then; and they end it at the fault where there is one. They take no
+/// turn of a loop, and change nothing else that was given out but temporaries.
+pub fn turns_are_lowered()
+    ensures { (frame : Frame) (scope_vars state_vars : List ℕ) (c : Consumer) (tail : Tail)
+        (stop : Block) (acts : Actions) (item : List Term) (inputs : List Input)
+        (scope_words state held env : List ℕ)
+        → IsTurnLayout frame scope_vars state_vars c.vars
+        → IsTurn (length scope_vars) (length state_vars) frame.temps acts item
+        → IsTailOf inputs frame.first_temp frame.temps c tail → tail.width ≡ length item
+        → IsStopOf inputs c stop → HasWordInputs inputs
+        → IsIn env scope_vars scope_words → IsIn env state_vars state → IsIn env c.vars held
+        → (acts_piece (length scope_vars) (length state_vars) frame.first_temp stop tail None
+        (turn_acts acts item) (scope_vars ++ state_vars) frame.next).next ≤ length env
+        → length env < 2 ^ 32
+        → TurnRuns inputs frame c state_vars
+        (acts_piece (length scope_vars) (length state_vars) frame.first_temp stop tail None
+        (turn_acts acts item) (scope_vars ++ state_vars) frame.next).block env
+        (turn_end_of c held (core_turn acts item scope_words inputs state [])) }
+{
+    laws_below();
+}
+
+/// A row is printed, or folded into what is held: the statements that do so, and those that end the
+/// run where the stream stops.
+pub fn rows_are_taken()
+    ensures prints { (inputs : List Input) (first_temp temps width : ℕ)
+        → IsTailOf inputs first_temp temps print_consumer (print_tail width) }
+    ensures print_stops { (inputs : List Input) → IsStopOf inputs print_consumer print_stop }
+    ensures folds { (inputs : List Input) (first_temp temps width : ℕ) (vars : List ℕ)
+        (next : List Term) → HasWordInputs inputs → IsFold vars width temps next
+        → IsTailOf inputs first_temp temps (fold_consumer vars next inputs)
+        (fold_tail vars first_temp width next) }
+    ensures fold_stops { (inputs : List Input) (vars : List ℕ) (next : List Term)
+        → IsStopOf inputs (fold_consumer vars next inputs) (fold_stop vars) }
+    ensures print_few { (width n : ℕ) (row : List ℕ) → ((print_tail width).piece row n).next ≡ n }
+    ensures fold_few { (vars row : List ℕ) (first_temp width n : ℕ) (next : List Term)
+        → ((fold_tail vars first_temp width next).piece row n).next ≤ n + length next }
+    ensures print_names { (kinds : List InputKind) (vars width n : ℕ) (row : List ℕ)
+        → All (λ v. v < n) row → n ≤ vars
+        → IsTrue (block_names (declared_names kinds vars) ((print_tail width).piece row n).block) }
+    ensures fold_names { (kinds : List InputKind) (all width temps first_temp n : ℕ)
+        (vars row : List ℕ) (next : List Term) → IsFold vars width temps next
+        → IsTrue (all_name_inputs (declared_inputs kinds) next) → All (λ v. v < n) vars
+        → All (λ v. v < n) row → length row ≡ width → first_temp + temps ≤ n
+        → ((fold_tail vars first_temp width next).piece row n).next ≤ all
+        → IsTrue (block_names (declared_names kinds all)
+        ((fold_tail vars first_temp width next).piece row n).block) }
+    ensures print_constants { (width n : ℕ) (row : List ℕ)
+        → IsTrue (block_has_words ((print_tail width).piece row n).block) }
+    ensures fold_constants { (width temps first_temp n : ℕ) (vars row : List ℕ) (next : List Term)
+        → IsFold vars width temps next
+        → IsTrue (block_has_words ((fold_tail vars first_temp width next).piece row n).block) }
+{
+    laws_below();
+}
+
+/// The statements of a turn name variables that are declared, and no input but those that its acts
+/// and its row name, in the same way, if what is done with the row and at a stop does so too. Their
+/// constants are words, and they take no more variables than the acts and the row add words.
+pub fn turns_name_declared_variables()
+    ensures names { (kinds : List InputKind) (vars scope states first_temp temps next : ℕ)
+        (rows : List ℕ) (tail : Tail) (stop : Block) (acts : Actions) (item : List Term)
+        → IsTurn scope states temps acts item → length rows ≡ scope + states
+        → All (λ v. v < next) rows → first_temp + temps ≤ next
+        → IsTrue (actions_leaves (is_named_leaf (declared_inputs kinds)) acts)
+        → IsTrue (all_name_inputs (declared_inputs kinds) item)
+        → IsTrue (block_names (declared_names kinds vars) stop)
+        → ((row : List ℕ) (n : ℕ) → All (λ v. v < n) row → next ≤ n → length row ≡ tail.width
+        → (tail.piece row n).next ≤ vars
+        → IsTrue (block_names (declared_names kinds vars) (tail.piece row n).block))
+        → tail.width ≡ length item
+        → ((row : List ℕ) (n : ℕ) → n ≤ (tail.piece row n).next)
+        → (acts_piece scope states first_temp stop tail None (turn_acts acts item) rows next).next
+        ≤ vars
+        → IsTrue (block_names (declared_names kinds vars)
+        (acts_piece scope states first_temp stop tail None (turn_acts acts item) rows next).block) }
+    ensures constants { (scope states first_temp temps next : ℕ) (rows : List ℕ) (tail : Tail)
+        (stop : Block) (acts : Actions) (item : List Term)
+        → IsTurn scope states temps acts item → length rows ≡ scope + states
+        → IsTrue (block_has_words stop)
+        → ((row : List ℕ) (n : ℕ) → IsTrue (block_has_words (tail.piece row n).block))
+        → IsTrue (block_has_words
+        (acts_piece scope states first_temp stop tail None (turn_acts acts item) rows next).block) }
+    ensures few { (scope states first_temp temps next most : ℕ) (rows : List ℕ) (tail : Tail)
+        (stop : Block) (acts : Actions) (item : List Term)
+        → IsTurn scope states temps acts item → length rows ≡ scope + states
+        → ((row : List ℕ) (n : ℕ) → (tail.piece row n).next ≤ n + most)
+        → (acts_piece scope states first_temp stop tail None (turn_acts acts item) rows next).next
+        ≤ next + actions_words scope acts + length item + most }
+    ensures grows { (scope states first_temp next : ℕ) (rows : List ℕ) (tail : Tail) (stop : Block)
+        (acts : Actions) → ((row : List ℕ) (n : ℕ) → n ≤ (tail.piece row n).next)
+        → next ≤ (acts_piece scope states first_temp stop tail None acts rows next).next }
+{
+    laws_below();
+}

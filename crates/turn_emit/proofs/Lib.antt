@@ -1,0 +1,5 @@
+pub mod ActCopies
+pub mod Growth
+pub mod ReadyActs
+pub mod ActPieces
+pub mod Puts

@@ -1,0 +1,3 @@
+pub mod Rows
+pub mod ActCopies
+pub mod WordUses
