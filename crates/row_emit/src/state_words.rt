@@ -22,11 +22,17 @@ use std::alloc::Global;
 use strm_num::NoMemory;
 use word_uses::{is_unread, row_is_unread};
 
+// Whether an expression is word k as it stands: the word, or a choice of it that a constant makes.
 fn is_word(k: u32, e: &Expr) -> bool
     ensures { result ≡ is_word k (term_of e.now) }
 {
     match e {
         Expr::Var(j) => *j == k,
+        Expr::If(c, a, b) => match constant(c) {
+            Some(0) => is_word(k, b),
+            Some(_) => is_word(k, a),
+            None => false,
+        },
         _ => false,
     }
 }

@@ -122,7 +122,7 @@ leaf_needs_none false false d h = ap not h
 
 -- an expression that doesn't read the word needs no variable
 needs_none : (rows : List ℕ) (t k s : ℕ) (e : Term) → IsTrue (avoids k e) → word_needs rows t k s e ≡ false
-needs_none rows t k s (term.If c a b) h = rw h (leaf_needs_none false (is_plain (term.If c a b)) true refl)
+needs_none rows t k s (term.If c a b) h = rw h (leaf_needs_none (is_word k (term.If c a b)) (is_plain (term.If c a b)) true refl)
 needs_none rows t k s e h = leaf_needs_none (is_word k e) (is_plain e) (avoids k e) h
 
 at_most : (d : Bool) (next : ℕ) → (if d then next + 1 else next) ≤ next + 1

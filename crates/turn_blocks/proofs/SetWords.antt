@@ -4,7 +4,7 @@
 -- An expression may read words that pass a test. Each of them stands in its variable, and in the variable of a word that is set
 -- only if it is that word.
 use Rattle.std.proofs.Common.{◌≡◌, ◌≢◌, ℕ, zero, suc, ◌+◌, ◌<◌, ◌≤◌, ◌^◌, Bool, true, false, ◌&&◌, ◌||◌, List, [], ◌∷◌, length, refl, sym, ap, ◌∙◌, subst, inl, inr, arith}
-use Rattle.std.specs.Prelude.{IsTrue, not, slice_index, slice_set, if◌then◌else◌}
+use Rattle.std.specs.Prelude.{IsTrue, not, slice_index, slice_set, if◌then◌else◌, Option, Some, None}
 use Rattle.std.proofs.lemmas.Bool.{eqb-true, ltb-true}
 use Rattle.std.proofs.lemmas.List.{get_or-set_same, get_or-set_other, length-set}
 use Rattle.strm_num.proofs.Truths.{both_true, true_both}
@@ -21,6 +21,7 @@ use Rattle.loop_ir.specs.Statements.{Operand, Var, Test, If, Block, Nil, Cons, j
 use Rattle.loop_ir.specs.Meaning.{Runs, Over, operand_value, test_value, run}
 use Rattle.loop_ir.proofs.Joins.{is_over}
 use Rattle.state_alloc.specs.Layouts.{IsTemporary, IsWordVariable, IsLaidOut}
+use Rattle.expr_constants.specs.Constants.{constant_of}
 use Rattle.expr_lower.specs.Contract.{IsTarget}
 use Rattle.expr_lower.specs.Costs.{is_plain}
 use Rattle.expr_forms.specs.Forms.{Condition, is_empty}
@@ -32,7 +33,7 @@ use Rattle.stateful_core.specs.CoreLeaves.{row_leaves}
 use Rattle.stateful_core.specs.MostWords.{is_other_leaf}
 use Rattle.turn_blocks.specs.Laws.{Laws}
 use Rattle.turn_blocks.specs.Pieces.{behind, choose}
-use Rattle.turn_blocks.specs.StateBlocks.{is_word, is_whole, is_straight, leaf_block, leaf_needs, word_block, word_needs, words_piece}
+use Rattle.turn_blocks.specs.StateBlocks.{chosen_word, is_word, is_whole, is_straight, leaf_block, leaf_needs, word_block, word_needs, words_piece}
 use Rattle.turn_blocks.specs.Temporaries.{row_temps}
 use Rattle.turn_blocks.specs.TurnContract.{HasWordInputs}
 use Rattle.turn_blocks.specs.WordUses.{avoids, row_avoids}
@@ -42,10 +43,33 @@ use Rattle.turn_blocks.proofs.StateTests.{either_true, other_word}
 use Rattle.turn_blocks.proofs.Temporaries.{choice_temps}
 use Rattle.turn_blocks.proofs.Values.{not_temporary, passes_on, if_runs, set_runs, Untouched, IsFit, Readable, scope_at, in_place, Put, Puts, Tells, fresh, value_puts, condition_tells}
 
--- an expression that is a word
-pub the_word : (k : ℕ) (e : Term) → is_word k e ≡ true → e ≡ term.Var k
-the_word k (term.Var j) h = ap term.Var (eqb-true j k h)
-the_word k _ h = absurd cc
+-- an expression that is a word reads it
+chosen_leaf : (k : ℕ) (test : Term → Bool) (known : Option ℕ) (c a b : Term) → chosen_word known (is_word k a) (is_word k b) ≡ true → (is_word k a ≡ true → IsTrue (all_leaves test a) → IsTrue (test (term.Var k))) → (is_word k b ≡ true → IsTrue (all_leaves test b) → IsTrue (test (term.Var k))) → IsTrue (all_leaves test (term.If c a b)) → IsTrue (test (term.Var k))
+chosen_leaf k test (Some zero) c a b h on off leaves =
+    off h (both_true (all_leaves test a) (all_leaves test b) (both_true (all_leaves test c) (all_leaves test a && all_leaves test b) leaves).1).1
+chosen_leaf k test (Some (suc x)) c a b h on off leaves =
+    on h (both_true (all_leaves test a) (all_leaves test b) (both_true (all_leaves test c) (all_leaves test a && all_leaves test b) leaves).1).0
+chosen_leaf k test None c a b h on off leaves = absurd cc
+
+word_leaf : (k : ℕ) (test : Term → Bool) (e : Term) → is_word k e ≡ true → IsTrue (all_leaves test e) → IsTrue (test (term.Var k))
+word_leaf k test (term.Var j) h leaves = subst (λ m. IsTrue (test (term.Var m))) (eqb-true j k h) leaves
+word_leaf k test (term.If c a b) h leaves = chosen_leaf k test (constant_of c) c a b h (word_leaf k test a) (word_leaf k test b) leaves
+word_leaf k test _ h leaves = absurd cc
+
+-- and its value is the word
+module _ (laws : Laws) (inputs : List Input) (words : List ℕ) (k : ℕ) where
+  abbrev IsWordValue : Term → Type 0
+  IsWordValue e = is_word k e ≡ true → value e words inputs ≡ Is (slice_index words k)
+
+  chosen_value : (known : Option ℕ) (c a b : Term) → constant_of c ≡ known → chosen_word known (is_word k a) (is_word k b) ≡ true → IsWordValue a → IsWordValue b → value (term.If c a b) words inputs ≡ Is (slice_index words k)
+  chosen_value (Some zero) c a b is h on off = ap (λ g. with_value g (λ x. choice x (value b words inputs) (value a words inputs))) (laws.constant_value c 0 words inputs is) ∙ off h
+  chosen_value (Some (suc x)) c a b is h on off = ap (λ g. with_value g (λ y. choice y (value b words inputs) (value a words inputs))) (laws.constant_value c (suc x) words inputs is) ∙ on h
+  chosen_value None c a b is h on off = absurd cc
+
+  word_value : (e : Term) → is_word k e ≡ true → value e words inputs ≡ Is (slice_index words k)
+  word_value (term.Var j) h = ap (λ m. Is (slice_index words m)) (eqb-true j k h)
+  word_value (term.If c a b) h = chosen_value (constant_of c) c a b refl h (word_value a) (word_value b)
+  word_value _ h = absurd cc
 
 -- the leaves that pass a test and are another word
 abbrev pub without : (Term → Bool) → ℕ → Term → Bool
@@ -189,10 +213,9 @@ module _ (laws : Laws) (inputs : List Input) (small : HasWordInputs inputs) (t t
 
             by_word : (b : Bool) → is_word k e ≡ b → PutsTo (if b then Nil else if is_straight rows t k e then lowered_into rows e (slice_index rows k) t else join (lowered_into rows e s t) (set (slice_index rows k) (Var s))) (slice_index rows k) s env (value e words inputs)
             by_word true is =
-                let same = the_word k e is in
-                let there = reads k lt (subst (λ x. IsTrue (all_leaves test x)) same fit.leaves) in
+                let there = reads k lt (word_leaf k test e is fit.leaves) in
                 let nothing : Put laws inputs small t temps Nil (slice_index rows k) s env (slice_index words k) = record { env' = env; runs = λ left. refl; same = refl; kept = λ v less none other. refl; word = there.word; is = there.same } in
-                subst (λ x. PutsTo Nil (slice_index rows k) s env (value x words inputs)) (sym same) nothing
+                subst (λ g. PutsTo Nil (slice_index rows k) s env g) (sym (word_value laws inputs words k e is)) nothing
             by_word false is = by_straight (is_straight rows t k e) refl (λ need. needs (needed is need))
 
         fit_parts : (c a b : Term) → is_whole k c a b ≡ false → Fits test (term.If c a b) → Fits test c × (Fits test a × Fits test b)
@@ -424,13 +447,12 @@ module _ (laws : Laws) (inputs : List Input) (small : HasWordInputs inputs) (t t
 
         word_itself : RowWrites es → is_word k e ≡ true → (words_piece rows t (k + 1) es next).next ≤ length env → Writes (words_piece rows t (k + 1) es next).block k (suc (length es)) next env (row_value (e ∷ es) words inputs)
         word_itself ih is most =
-            let same = the_word k e is in
-            let there = reads k lt (subst (λ x. IsTrue (all_leaves test x)) same (first_fit test e es fit).leaves) in
+            let there = reads k lt (word_leaf k test e is (first_fit test e es fit).leaves) in
             let set : Writes (words_piece rows t (k + 1) es next).block k (suc (length es)) next env (with_value (row_value es words inputs) (λ row. Is (slice_index words k ∷ row))) =
             first_set k (length es) next env laid_out test alone lt Nil (words_piece rows t (k + 1) es next).block env (slice_index words k) next (row_value es words inputs)
             (omega arith) (λ left. refl) refl (λ v less none other. refl) there.word there.same
             (ih (k + 1) next test env laid_out beyond (rest_fit test e es fit) reads (rest_alone test k (length es) alone) room most small_env) in
-            subst (λ x. Writes (words_piece rows t (k + 1) es next).block k (suc (length es)) next env (with_value (value x words inputs) (λ y. with_value (row_value es words inputs) (λ row. Is (y ∷ row))))) (sym same) set
+            subst (λ g. Writes (words_piece rows t (k + 1) es next).block k (suc (length es)) next env (with_value g (λ y. with_value (row_value es words inputs) (λ row. Is (y ∷ row))))) (sym (word_value laws inputs words k e is)) set
 
         word_first : RowWrites es → IsTrue (row_avoids k es) → (words_piece rows t (k + 1) es (if word_needs rows t k next e then next + 1 else next)).next ≤ length env → Writes (join (word_block rows t k next e) (words_piece rows t (k + 1) es (if word_needs rows t k next e then next + 1 else next)).block) k (suc (length es)) next env (row_value (e ∷ es) words inputs)
         word_first ih free most =

@@ -135,3 +135,9 @@ known_text : (fold_tail (3 ∷ []) 0 1 (term.If (term.Truth true) (term.Bin sign
 }
 unfolding lowered_term
 known_text = refl
+
+-- ---- and nothing where the chosen part is the word itself
+
+stays_text : (fold_tail (3 ∷ []) 0 1 (term.If (term.Truth true) (term.Var 0) (term.Var 1) ∷ [])).piece (4 ∷ []) 5 ≡ record { block = Nil; next = 5 }
+unfolding lowered_term
+stays_text = refl

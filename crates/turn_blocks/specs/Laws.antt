@@ -1,5 +1,5 @@
 -- The laws of expressions that the statements of a turn rest on.
-use Rattle.std.specs.Prelude.{◌≡◌, ℕ, ◌≤◌, List, length, IsTrue}
+use Rattle.std.specs.Prelude.{◌≡◌, ℕ, ◌≤◌, List, length, Some, IsTrue}
 use Rattle.list_denotation.specs.declared.input.Input.{Input}
 use Rattle.list_denotation.specs.InputNames.{names_inputs}
 use Rattle.list_denotation.specs.Literals.{has_words}
@@ -11,6 +11,7 @@ use Rattle.loop_ir.specs.Constants.{operand_has_words, test_has_words, block_has
 use Rattle.loop_ir.specs.DeclaredNames.{Names, test_names}
 use Rattle.loop_ir.specs.Statements.{Set, Nil, Cons}
 use Rattle.state_alloc.specs.Layouts.{IsLaidOut}
+use Rattle.expr_constants.specs.Constants.{constant_of}
 use Rattle.expr_lower.specs.Contract.{Scope, value_block, condition_block, condition_test, operand_statements, operand_word, IsTarget, IsLowerable, PutsValue, TellsTruth, YieldsWord, StandsFor, NamesOnly, TestNamesOnly, WordNamesOnly}
 use Rattle.expr_lower.specs.Costs.{is_plain, temps_of}
 use Rattle.expr_forms.specs.Forms.{is_empty}
@@ -40,6 +41,8 @@ pub record Laws : Type 0 where
   -- expressions without division
   pub undivided_value : (env : List ℕ) (inputs : List Input) (e : Term) → IsTrue (is_undivided e)
       → ((w : ℕ) × (value e env inputs ≡ Is w))
+  -- expressions whose value is known
+  pub constant_value : (e : Term) (c : ℕ) (words : List ℕ) (inputs : List Input) → constant_of e ≡ Some c → value e words inputs ≡ Is c
   -- what the statements name, and their constants
   pub names_of_value : (scope : Scope) (e : Term) (target : ℕ) → IsTrue (has_words e) → temps_of e ≤ scope.temps
       → NamesOnly scope e target (value_block scope e target)

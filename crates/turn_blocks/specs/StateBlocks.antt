@@ -1,9 +1,10 @@
 -- The statements that set words which stand in variables, each to the value of an expression over words that may be set.
-use Rattle.std.specs.Prelude.{ℕ, ◌+◌, Bool, false, ◌||◌, not, ◌==◌, List, [], ◌∷◌, slice_index, if◌then◌else◌, is_some}
+use Rattle.std.specs.Prelude.{ℕ, ◌+◌, Bool, false, ◌||◌, not, ◌==◌, List, [], ◌∷◌, slice_index, if◌then◌else◌, Option, is_some}
 use Rattle.list_denotation.specs.Terms as term
 use Rattle.list_denotation.specs.Terms.{Term}
+use Rattle.list_denotation.specs.Values.{choice}
 use Rattle.loop_ir.specs.Statements.{Var, Block, Nil, join}
-use Rattle.expr_constants.specs.Constants.{constant_of}
+use Rattle.expr_constants.specs.Constants.{by_constant, constant_of}
 use Rattle.expr_lower.specs.Costs.{is_plain}
 use Rattle.expr_forms.specs.Forms.{is_empty}
 use Rattle.expr_lower.specs.Lowering.{lowered_into, lowered_test}
@@ -11,8 +12,14 @@ use Rattle.expr_phrases.specs.Phrases.{set}
 use Rattle.turn_blocks.specs.Pieces.{Piece, no_piece, behind, choose}
 use Rattle.turn_blocks.specs.WordUses.{avoids, row_avoids}
 
+-- whether the branch that a constant chooses is the word; none is chosen where the condition is no constant
+abbrev pub chosen_word : Option ℕ → Bool → Bool → Bool
+chosen_word c on off = by_constant c (λ x. choice x off on) false
+
+-- whether an expression is word k as it stands: the word, or a choice of it that a constant makes
 abbrev pub is_word : ℕ → Term → Bool
 is_word k (term.Var j) = j == k
+is_word k (term.If c a b) = chosen_word (constant_of c) (is_word k a) (is_word k b)
 is_word k _ = false
 
 -- a choice that is computed as a whole, and not in the branches of a test: it doesn't read word k, or a constant chooses

@@ -19,12 +19,13 @@ ghost use Rattle.turn_blocks.specs.TurnBlocks.{acts_piece, turn_acts};
 ghost use Rattle.turn_blocks.specs.TurnContract.{Consumer, turn_end_of, IsIn, HasWordInputs, Frame, IsTailOf, IsStopOf, TurnRuns, IsTurnLayout, IsTurn};
 
 use denotation_laws::undivided_expressions_have_values;
+use expr_constants::constants_are_values;
 use expr_lower::{
     expressions_are_lowered, expressions_name_their_leaves, plain_expressions_are_words,
     scopes_hold_expressions,
 };
 
-/// What expr_lower and denotation_laws promise of expressions.
+/// What expr_lower, expr_constants and denotation_laws promise of expressions.
 fn laws_below()
     ensures { Laws }
 {
@@ -33,6 +34,7 @@ fn laws_below()
     plain_expressions_are_words();
     scopes_hold_expressions();
     undivided_expressions_have_values();
+    constants_are_values();
 }
 
 /// The statements of a turn do what the turn does, and then with its row what is done with rows:

@@ -8,7 +8,8 @@
 //!
 //! The crate has definitions and laws, and no code that runs. It stands on expr_lower, whose
 //! statements put expressions into variables, on stateful_core, whose acts these are, on loop_ir and
-//! state_alloc; denotation_laws says that expressions without division have values. The law
+//! state_alloc; denotation_laws says that expressions without division have values, and
+//! expr_constants that the value of an expression is its constant, where this is known. The law
 //! `turns_are_lowered` carries the promise: the statements do what the turn does, and then with its
 //! row what is done with rows; they end the run where the stream stops, and at the fault where there
 //! is one. `rows_are_taken` says what printing and folding do with a row, and

@@ -1,9 +1,8 @@
 -- The parts of a choice fit where it does.
-use Rattle.std.proofs.Common.{rules, ◌≤◌, ◌||◌, sym, ap, ◌∙◌, subst, arith}
+use Rattle.std.proofs.Common.{rules, ◌||◌, sym, ap, ◌∙◌, arith}
 use Rattle.std.specs.Prelude.{is_some}
 use Rattle.list_denotation.specs.Copies.{term_of}
 use Rattle.list_denotation.specs.Counts.{term_depth}
-use Rattle.list_denotation.specs.Terms.{Term}
 use Rattle.expr_constants.specs.Constants.{constant_of}
 use Rattle.expr_lower.specs.Costs.{temps_of}
 use Rattle.turn_blocks.specs.WordUses.{avoids}

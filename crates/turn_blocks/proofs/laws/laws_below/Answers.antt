@@ -9,6 +9,7 @@ returns c = record {
   plain_block = c.plain_expressions_are_words.ensures.values;
   plain_value = c.plain_expressions_are_words.ensures.gives;
   undivided_value = c.undivided_expressions_have_values.ensures.expressions;
+  constant_value = c.constants_are_values.ensures.value;
   names_of_value = c.expressions_name_their_leaves.ensures.values;
   names_of_condition = c.expressions_name_their_leaves.ensures.conditions;
   names_of_test = c.expressions_name_their_leaves.ensures.tests;
