@@ -1,6 +1,6 @@
 //! The loop program of a pipeline.
 
-ghost use Rattle.std.specs.Prelude.{◌≡◌, ℕ, ◌+◌, ◌<◌, ◌^◌, length, IsTrue, IfOk, OnOk};
+ghost use Rattle.std.specs.Prelude.{◌≡◌, ℕ, ◌+◌, ◌<◌, ◌^◌, length, IfOk, OnOk};
 ghost use Rattle.std.specs.List.{range_with_len};
 ghost use Rattle.list_denotation.specs.Copies.{term_of, terms_of, finish_of};
 ghost use Rattle.list_denotation.specs.Pipelines.{pipeline_of};
@@ -10,7 +10,6 @@ ghost use Rattle.loop_ir.specs.StatementCopies.{block_of, routine_from};
 ghost use Rattle.loop_ir.specs.WellFormed.{IsWellFormed};
 ghost use Rattle.expr_phrases.specs.PhraseCopies.{Appends};
 ghost use Rattle.stateful_core.specs.CoreCopies.{actions_of, core_term_of};
-ghost use Rattle.stateful_core.specs.CoreShapes.{is_flat};
 ghost use Rattle.loop_emit.specs.CoreCondition.{IsCoreFor};
 ghost use Rattle.loop_emit.specs.Emission.{held_count, finish_openings, openings, machine_temps, held_vars};
 ghost use Rattle.loop_emit.specs.Emission.{turn_piece, machine_loop};
@@ -159,8 +158,7 @@ fn statements(
 
 // The statements of the program, and how many variables there are.
 fn program_body(alloc: Global, p: &Program, c: &Core) -> Result<(Stmts, u32), NoMemory>
-    requires core { IsCoreFor (pipeline_of p.now) (core_term_of c.now) }
-    requires flat { IsTrue (is_flat (core_term_of c.now)) }
+    requires { IsCoreFor (pipeline_of p.now) (core_term_of c.now) }
     ensures well_formed { IfOk result (λ it.
         IsWellFormed (routine_from p.now.inputs it.1 it.0)) }
     ensures emitted { IfOk result (λ it.
@@ -173,15 +171,14 @@ fn program_body(alloc: Global, p: &Program, c: &Core) -> Result<(Stmts, u32), No
     statements(alloc, &machine, &p.terminal, temps)
 }
 
-/// The loop program of a pipeline, made of a core term for its stream in which no Nest and no Zip
-/// stands: one loop over the state of the term's machine, in which each row is printed or folded.
+/// The loop program of a pipeline, made of a core term for its stream: one loop over the state of the
+/// term's machine, in which each row is printed or folded.
 ///
 /// Run n turns, the program goes no further than the pipeline's lists at n pulls, and run as many
 /// turns as the lists' work, it goes as far as they do. It has few variables, and the pipeline's
 /// inputs as its parameters. The one error is `NoMemory`, where memory is refused.
 pub fn emit(alloc: Global, p: &Program, c: &Core) -> Result<Prog, NoMemory>
-    requires core { IsCoreFor (pipeline_of p.now) (core_term_of c.now) }
-    requires flat { IsTrue (is_flat (core_term_of c.now)) }
+    requires { IsCoreFor (pipeline_of p.now) (core_term_of c.now) }
     ensures { IfOk result (λ q. IsEmitted (pipeline_of p.now) (routine_of q)) }
 {
     let (body, vars) = program_body(alloc, p, c)?;

@@ -10,7 +10,7 @@
 //! `specs/Headline`: run n turns, the program goes no further than the pipeline's lists at n pulls,
 //! and run as many turns as the lists' work, it goes as far as they do; it has few variables, and the
 //! pipeline's inputs as its parameters. What is asked of the core term stands in
-//! `specs/CoreCondition`; no Nest and no Zip may stand in it yet.
+//! `specs/CoreCondition`.
 #![tactic(auto)]
 
 mod emission;

@@ -1,5 +1,6 @@
 //! The commands over one file in memory: what they write, their number, and their line.
 
+use crate::limits::declared_in;
 use run_transcript::{is_answered, transcript};
 use std::alloc::Global;
 use strm_num::NoMemory;
@@ -13,17 +14,6 @@ fn compiled(alloc: Global, text: &[u8]) -> Result<Vec<u8>, NoMemory> {
 const SQUARES: &str = "input a: array;\narray a | map x -> x * x + 1 | print";
 
 const PLAIN: &str = "input a: array;\narray a | print";
-
-/// How many variables a C text declares.
-fn declared_in(text: &[u8]) -> u32 {
-    let mut count: u32 = 0;
-    for line in text.split(|byte| *byte == b'\n') {
-        if line.starts_with(b"  uint64_t v") {
-            count = count.saturating_add(1);
-        }
-    }
-    count
-}
 
 /// Whether a text is compiled to a function of one array with so many variables at most.
 fn is_compiled(alloc: Global, text: &[u8], most: u32) -> Result<bool, NoMemory> {
@@ -197,11 +187,8 @@ const TEXTS: [(&str, &str); 25] = [
         "unfold 0 with i while true yield i next i + 1 | take 3 | print",
         "",
     ),
-    (
-        "range(0, 3) | flatMap i -> (range(0, i)) | print",
-        "Unbuilt at 0",
-    ),
-    ("zip(range(0, 3), range(1, 4)) | print", "Unbuilt at 0"),
+    ("range(0, 3) | flatMap i -> (range(0, i)) | print", ""),
+    ("zip(range(0, 3), range(1, 4)) | print", ""),
     ("input least: array; array least | print", "Syntax at 6"),
     ("input a: array; array a || print", "Syntax at 24"),
     ("input a: array; array a | print | print", "Syntax at 32"),

@@ -1,4 +1,4 @@
--- The core of a typed chain has all that is promised of it.
+-- The core of a typed stream has all that is promised of it.
 use Rattle.std.proofs.Common.{ℕ, ◌+◌, ◌*◌, ◌^◌, ◌≤◌, max, [], refl, sym, ◌∙◌, arith}
 use Rattle.std.specs.Prelude.{IsTrue, nat_lt}
 use Rattle.std.proofs.lemmas.Bool.{lt-ltb}
@@ -18,7 +18,7 @@ use Rattle.stateful_core.specs.CorePromise.{IsCoreOf}
 use Rattle.stateful_core.specs.CoreTerms.{CoreTerm}
 use Rattle.stateful_core.specs.Laws.{Laws}
 use Rattle.stateful_core.specs.MostWords.{most_words}
-use Rattle.stateful_core.specs.StreamCores.{core_at, is_chain}
+use Rattle.stateful_core.specs.StreamCores.{core_at}
 use Rattle.stateful_core.specs.WellFormed.{is_sound_core}
 use Rattle.stateful_core.proofs.CoreWidths.{scope_at, width_at, zips_at}
 use Rattle.stateful_core.proofs.SoundCores.{sound_at, leaves_at}
@@ -26,7 +26,7 @@ use Rattle.stateful_core.proofs.StreamRows.{rows_at, work_at}
 use Rattle.stateful_core.proofs.StreamScopes.{same_width}
 use Rattle.stateful_core.proofs.WordCounts.{words_at, temps_at}
 
-module _ (laws : Laws) (p : Program) (typed : IsTrue (is_typed p.inputs p.stream p.terminal)) (words : IsTrue (program_has_words p.stream p.terminal)) (chain : IsTrue (is_chain (pipe_of p.stream))) where
+module _ (laws : Laws) (p : Program) (typed : IsTrue (is_typed p.inputs p.stream p.terminal)) (words : IsTrue (program_has_words p.stream p.terminal)) where
   abbrev s : Pipe
   s = pipe_of p.stream
 
@@ -43,7 +43,7 @@ module _ (laws : Laws) (p : Program) (typed : IsTrue (is_typed p.inputs p.stream
   core_scoped = (laws.scopes p.inputs p.stream p.terminal typed words).0
 
   few_words : (d : ℕ) → most_words c d ≤ 32 * stream_ops s + 6 * max d (stream_depth s) + 40
-  few_words d = omega (arith, words_at may s 0 chain core_scoped, temps_at s 0, scope_at s 0)
+  few_words d = omega (arith, words_at may s 0 core_scoped, temps_at s 0, scope_at s 0)
 
   pub core_kept : IsCoreOf (pipeline_of p) c
   core_kept =
@@ -55,8 +55,8 @@ module _ (laws : Laws) (p : Program) (typed : IsTrue (is_typed p.inputs p.stream
         width = λ ks q. width_at s 0 ∙ sym (same_width may s 0 core_scoped) ∙ laws.widths p.inputs [] ks s q stream_words;
         names = leaves_at (is_named_leaf may) (λ k. refl) refl refl (λ b. refl) may (λ k h. h) (λ n e h. h.names) (λ n es h. h.names) s 0 0 core_scoped;
         numbers = leaves_at is_word_leaf (λ k. refl) refl refl (λ b. refl) may (λ k h. refl) (λ n e h. h.words) (λ n es h. h.words) s 0 0 core_scoped;
-        rows = λ inputs n fits. rows_at laws may p.inputs inputs fits n s [] (All-nil IsWord) chain core_scoped stream_words;
-        work = λ inputs n fits. work_at laws may p.inputs inputs fits n s [] (All-nil IsWord) chain core_scoped stream_words;
+        rows = λ inputs n fits. rows_at laws may p.inputs inputs fits n s [] (All-nil IsWord) core_scoped stream_words;
+        work = λ inputs n fits. work_at laws may p.inputs inputs fits n s [] (All-nil IsWord) core_scoped stream_words;
         words = omega (arith, few_words (depth (pipeline_of p)));
         zips = λ h. sym (zips_at s 0) ∙ h;
       }

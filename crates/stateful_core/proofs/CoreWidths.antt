@@ -1,11 +1,10 @@
--- The scope and the width of the core of a stream, its Zips, and that the core of a chain is flat.
+-- The scope and the width of the core of a stream, and its Zips.
 use Rattle.std.proofs.Common.{◌≡◌, ℕ, ◌+◌, length, refl, arith}
-use Rattle.std.specs.Prelude.{IsTrue}
 use Rattle.list_denotation.specs.Terms as stream
 use Rattle.list_denotation.specs.Terms.{Pipe}
-use Rattle.stateful_core.specs.CoreShapes.{core_scope, core_width, has_zip, is_flat}
-use Rattle.stateful_core.specs.StreamCores.{stream_width, core_at, is_chain, stream_has_zip}
-use Rattle.stateful_core.proofs.Variables.{length_variables}
+use Rattle.stateful_core.specs.CoreShapes.{core_scope, core_width, has_zip}
+use Rattle.stateful_core.specs.StreamCores.{stream_width, core_at, stream_has_zip}
+use Rattle.stateful_core.proofs.VariableRows.{length_variables}
 
 pub scope_at : (p : Pipe) (e : ℕ) → core_scope (core_at e p) ≡ e
 scope_at (stream.Array k) e = refl
@@ -45,16 +44,3 @@ zips_at (stream.TakeWhile of body) e = zips_at of e
 zips_at (stream.Scan of seed next) e = zips_at of e
 zips_at (stream.FlatMap of inner) e = rw (zips_at of e, zips_at inner (e + stream_width of)) refl
 zips_at (stream.Zip left right) e = refl
-
-pub flat_at : (p : Pipe) (e : ℕ) → IsTrue (is_chain p) → IsTrue (is_flat (core_at e p))
-flat_at (stream.Array k) e h = refl
-flat_at (stream.Range a b) e h = refl
-flat_at (stream.Unfold seed guard item next) e h = refl
-flat_at (stream.Map of body) e h = flat_at of e h
-flat_at (stream.Filter of body) e h = flat_at of e h
-flat_at (stream.Take of count) e h = flat_at of e h
-flat_at (stream.Drop of count) e h = flat_at of e h
-flat_at (stream.TakeWhile of body) e h = flat_at of e h
-flat_at (stream.Scan of seed next) e h = flat_at of e h
-flat_at (stream.FlatMap of inner) e h = absurd cc
-flat_at (stream.Zip left right) e h = absurd cc

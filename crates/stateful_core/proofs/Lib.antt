@@ -1,7 +1,7 @@
 pub mod WorkedRows
 pub mod UndividedValues
 pub mod WordOrder
-pub mod Variables
+pub mod VariableRows
 pub mod StreamScopes
 pub mod RunningActs
 pub mod StageRows

@@ -16,7 +16,7 @@ use Rattle.stateful_core.specs.CoreRows.{turn_end}
 use Rattle.stateful_core.specs.StreamCores.{variables, let_all, set_state, next_state}
 use Rattle.stateful_core.specs.Laws.{Laws}
 use Rattle.stateful_core.proofs.UndividedValues.{undivided_row}
-use Rattle.stateful_core.proofs.Variables.{length_word_values, variables_at}
+use Rattle.stateful_core.proofs.VariableRows.{length_word_values, variables_at}
 
 -- acts behind the local words of a row, and a fault where there is none
 abbrev pub with_row : Got (List ℕ) → (List ℕ → ActResult) → ActResult

@@ -19,7 +19,7 @@ use Rattle.stateful_core.specs.Laws.{Laws}
 use Rattle.stateful_core.specs.WellFormed.{is_sure, all_sure, is_sound_action, are_sound_actions, are_sound_parts, is_sound_core}
 use Rattle.stateful_core.proofs.CoreWidths.{scope_at, width_at}
 use Rattle.stateful_core.proofs.StreamScopes.{sure_opening, sure_seed, over_rows}
-use Rattle.stateful_core.proofs.Variables.{length_variables}
+use Rattle.stateful_core.proofs.VariableRows.{length_variables}
 
 -- ---- sound parts
 
@@ -31,7 +31,7 @@ undivided_variables : (k w : ℕ) → IsTrue (all_undivided (variables k w))
 undivided_variables k zero = refl
 undivided_variables k (suc w) = undivided_variables (suc k) w
 
-sure_variables : (n k w : ℕ) → k + w ≤ n → IsTrue (all_sure n (variables k w))
+pub sure_variables : (n k w : ℕ) → k + w ≤ n → IsTrue (all_sure n (variables k w))
 sure_variables n k w h = true_both (all_bound n (variables k w)) (all_undivided (variables k w)) (bound_variables n k w h) (undivided_variables k w)
 
 pub locals_lets : (es : List Term) (more : Actions) → actions_locals (let_all es more) ≡ length es + actions_locals more

@@ -24,7 +24,7 @@ use Rattle.stateful_core.specs.StreamCores.{variables, let_all, set_state, next_
 use Rattle.stateful_core.specs.Laws.{Laws}
 use Rattle.stateful_core.proofs.RunningActs.{with_row, run_lets, state_turn}
 use Rattle.stateful_core.proofs.UndividedValues.{undivided_value}
-use Rattle.stateful_core.proofs.Variables.{word_behind, variables_at}
+use Rattle.stateful_core.proofs.VariableRows.{word_behind, variables_at}
 use Rattle.stateful_core.proofs.WordOrder.{less_apart, next_not_above, neither_less}
 
 module _ (laws : Laws) (env : List ℕ) (inputs : List Input) where

@@ -18,7 +18,7 @@ use Rattle.stateful_core.specs.StreamCores.{variables, let_all, set_state, next_
 use Rattle.stateful_core.specs.Laws.{Laws}
 use Rattle.stateful_core.proofs.RunningActs.{with_row, run_lets, state_turn}
 use Rattle.stateful_core.proofs.UndividedValues.{HasValue, undivided_value}
-use Rattle.stateful_core.proofs.Variables.{word_behind, variables_at}
+use Rattle.stateful_core.proofs.VariableRows.{word_behind, variables_at}
 
 module _ (laws : Laws) (env : List ℕ) (inputs : List Input) (w : ℕ) where
   -- ---- map

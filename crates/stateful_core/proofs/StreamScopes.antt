@@ -1,5 +1,5 @@
 -- What a stream reads of its scope, over rows as wide as those of its core.
-use Rattle.std.proofs.Common.{◌≡◌, ℕ, ◌+◌, ◌≤◌, List, refl, subst, arith}
+use Rattle.std.proofs.Common.{◌≡◌, ℕ, ◌+◌, ◌≤◌, List, refl, sym, subst, arith}
 use Rattle.std.specs.Prelude.{IsTrue}
 use Rattle.pipe_limits.specs.declared.TheConstants.{MOST_COMPONENTS}
 use Rattle.strm_num.proofs.Truths.{true_both}
@@ -51,4 +51,10 @@ module _ (may : InputNames) where
   narrow (FlatMap of inner) n s = narrow inner (n + rows.stream_width of) s.1
   narrow (Zip left right) n s = omega (arith, same_width left n s.0, same_width right n s.1, s.2)
 
-pub ruleset scope_steps = (narrow)
+-- the inner stream of a `flatMap` stands in the scope of a row of the outer one's core
+pub inner_scope : (may : InputNames) (p of inner : Pipe) (n w : ℕ) → StreamReadsScope may n p → p ≡ FlatMap of inner → w ≡ stream_width of → StreamReadsScope may (n + w) inner
+inner_scope may p of inner n w s shape e =
+    let both = subst (StreamReadsScope may n) shape s in
+    subst (λ k. StreamReadsScope may (n + k) inner) (sym e) (over_rows may (λ k. StreamReadsScope may (n + k) inner) of n both.0 both.1)
+
+pub ruleset scope_steps = (narrow, inner_scope)

@@ -13,9 +13,10 @@ use Rattle.list_denotation.specs.Leaves.{all_leaves}
 use Rattle.denotation_laws.specs.StreamScopes.{StreamReadsScope}
 use Rattle.stateful_core.specs.CoreTerms.{Action, Let, KeepIf, StopUnless, Actions, Nil, Cons}
 use Rattle.stateful_core.specs.MostWords.{kept_aside, most_temps, row_temps, action_temps, actions_temps, core_temps, is_other_leaf, is_written_straight, action_words, actions_words, added_words}
-use Rattle.stateful_core.specs.StreamCores.{variables, let_all, set_state, next_state, test_acts, one_more, one_less, stream_width, core_at, is_chain}
-use Rattle.stateful_core.proofs.StreamScopes.{narrow}
-use Rattle.stateful_core.proofs.Variables.{length_variables}
+use Rattle.stateful_core.specs.StreamCores.{variables, let_all, set_state, next_state, test_acts, one_more, one_less, stream_width, core_at}
+use Rattle.stateful_core.proofs.CoreWidths.{width_at}
+use Rattle.stateful_core.proofs.StreamScopes.{narrow, over_rows}
+use Rattle.stateful_core.proofs.VariableRows.{length_variables}
 
 -- ---- words
 
@@ -57,34 +58,36 @@ module _ (e : ℕ) where
           let straight = none_where_straight (is_written_straight (e + 0) (variables k (length es))) (length (variables k (length es))) (other_words (e + 0) (length (variables k (length es))) k (length es) (omega (arith, length_variables k (length es)))) in
           omega (arith, words_lets es (set_state (variables k (length es))), straight)
 
-  words_test : (act : Term → Action) → ((f : Term) → action_words e (act f) ≡ 1) → (k : ℕ) (f : Term) → actions_words e (test_acts act k f) ≤ 2
+  words_test : (act : Term → Action) → ((f : Term) → action_words e (act f) ≤ 3) → (k : ℕ) (f : Term) → actions_words e (test_acts act k f) ≤ 4
   words_test act is k f = by_form (is_undivided f)
     where
-      by_form : (t : Bool) → actions_words e (if t then Cons (act f) Nil else Cons (Let f) (Cons (act (Var k)) Nil)) ≤ 2
+      by_form : (t : Bool) → actions_words e (if t then Cons (act f) Nil else Cons (Let f) (Cons (act (Var k)) Nil)) ≤ 4
       by_form true = omega (arith, is f)
       by_form false = omega (arith, is (Var k))
 
-pub words_at : (may : InputNames) (p : Pipe) (e : ℕ) → IsTrue (is_chain p) → StreamReadsScope may e p → added_words (core_at e p) ≤ 32 * stream_ops p
-words_at may (stream.Array k) e c s = omega (arith, words_set e (one_more e ∷ []))
-words_at may (stream.Range a b) e c s = omega (arith, words_set e (one_more e ∷ []))
-words_at may (stream.Unfold seed guard item next) e c s =
+pub words_at : (may : InputNames) (p : Pipe) (e : ℕ) → StreamReadsScope may e p → added_words (core_at e p) ≤ 32 * stream_ops p
+words_at may (stream.Array k) e s = omega (arith, words_set e (one_more e ∷ []))
+words_at may (stream.Range a b) e s = omega (arith, words_set e (one_more e ∷ []))
+words_at may (stream.Unfold seed guard item next) e s =
     let k = e + length seed + length item in
     omega (arith, words_lets e item (next_state k next), words_state e k next (omega (arith, s.same_width)), length_variables (e + length seed) (length item), s.same_width, s.next_reads.few, s.item_reads.few)
-words_at may (stream.Map of body) e c s =
-    omega (arith, words_at may of e c s.0, words_lets e body Nil, length_variables (e + stream_width of) (length body), s.1.few)
-words_at may (stream.Filter of body) e c s =
-    omega (arith, words_at may of e c s.0, words_test e KeepIf (λ f. refl) (e + stream_width of) body, length_variables e (stream_width of), narrow may of e s.0)
-words_at may (stream.Take of count) e c s =
-    omega (arith, words_at may of e c s.0, words_set e (one_less e ∷ []), length_variables (e + 1) (stream_width of), narrow may of e s.0)
-words_at may (stream.Drop of count) e c s =
-    omega (arith, words_at may of e c s.0, unless_straight (is_written_straight (e + 0) (one_less e ∷ [])) 1, length_variables (e + 1) (stream_width of), narrow may of e s.0)
-words_at may (stream.TakeWhile of body) e c s =
-    omega (arith, words_at may of e c s.0, words_test e StopUnless (λ f. refl) (e + stream_width of) body, length_variables e (stream_width of), narrow may of e s.0)
-words_at may (stream.Scan of seed next) e c s =
+words_at may (stream.Map of body) e s =
+    omega (arith, words_at may of e s.0, words_lets e body Nil, length_variables (e + stream_width of) (length body), s.1.few)
+words_at may (stream.Filter of body) e s =
+    omega (arith, words_at may of e s.0, words_test e KeepIf (λ f. omega arith) (e + stream_width of) body, length_variables e (stream_width of), narrow may of e s.0)
+words_at may (stream.Take of count) e s =
+    omega (arith, words_at may of e s.0, words_set e (one_less e ∷ []), length_variables (e + 1) (stream_width of), narrow may of e s.0)
+words_at may (stream.Drop of count) e s =
+    omega (arith, words_at may of e s.0, unless_straight (is_written_straight (e + 0) (one_less e ∷ [])) 1, length_variables (e + 1) (stream_width of), narrow may of e s.0)
+words_at may (stream.TakeWhile of body) e s =
+    omega (arith, words_at may of e s.0, words_test e StopUnless (λ f. omega arith) (e + stream_width of) body, length_variables e (stream_width of), narrow may of e s.0)
+words_at may (stream.Scan of seed next) e s =
     let k = e + length seed + stream_width of in
-    omega (arith, words_at may of e c s.0, words_state e k next (omega (arith, s.1.same_width)), length_variables e (length seed), s.1.same_width, s.1.next_reads.few)
-words_at may (stream.FlatMap of inner) e c s = absurd cc
-words_at may (stream.Zip left right) e c s = absurd cc
+    omega (arith, words_at may of e s.0, words_state e k next (omega (arith, s.1.same_width)), length_variables e (length seed), s.1.same_width, s.1.next_reads.few)
+words_at may (stream.FlatMap of inner) e s =
+    omega (arith, words_at may of e s.0, words_at may inner (e + stream_width of) (over_rows may (λ k. StreamReadsScope may (e + k) inner) of e s.0 s.1))
+words_at may (stream.Zip left right) e s =
+    omega (arith, words_at may left e s.0, words_at may right e s.1, width_at left e, narrow may left e s.0)
 
 -- ---- temporaries
 

@@ -6,7 +6,7 @@ use Rattle.list_denotation.specs.declared.input.Input.TheVariants as input
 use Rattle.list_denotation.specs.declared.input.InputKind.TheVariants as kind
 use Rattle.list_denotation.specs.Counts.{depth, most_vars}
 use Rattle.list_denotation.specs.InputNames.{declared_inputs}
-use Rattle.list_denotation.specs.Terms.{Lit, Truth, Var, Neg, Bin, Pipe, Array, Range, Unfold, Map, Filter, Take, Drop, TakeWhile, Scan, FlatMap, Zip, Print, Pipeline}
+use Rattle.list_denotation.specs.Terms.{Lit, Truth, Var, Len, Neg, Bin, Pipe, Array, Range, Unfold, Map, Filter, Take, Drop, TakeWhile, Scan, FlatMap, Zip, Print, Pipeline}
 use Rattle.list_denotation.specs.Values.{Trap, Stuck}
 use Rattle.list_denotation.specs.Rows.{Rows, Ends, Row, End, Cut, Broken}
 use Rattle.stateful_core.specs.CoreTerms as term
@@ -16,7 +16,7 @@ use Rattle.stateful_core.specs.CoreWork.{core_work}
 use Rattle.stateful_core.specs.CoreLeaves.{core_names_inputs, core_has_words}
 use Rattle.stateful_core.specs.MostWords.{most_words}
 use Rattle.stateful_core.specs.WellFormed.{is_well_formed}
-use Rattle.stateful_core.specs.StreamCores.{always, core_at}
+use Rattle.stateful_core.specs.StreamCores.{set_state, always, one_more, range_start, core_at}
 
 -- the word of a number below 0
 abbrev minus : ℕ → ℕ
@@ -139,6 +139,38 @@ inner_take = refl
 
 inner_work : work_of firsts_of_each (1 ∷ 2 ∷ []) 2 ≡ 9
 inner_work = refl
+
+-- array a | flatMap x -> range(0, x)
+abbrev numbers_below_each : Pipe
+numbers_below_each = FlatMap (Array 0) (Range (Lit 0) (Var 0))
+
+-- the inner stream stands in a scope of one word more, the item
+numbers_below_each_core : core_at 0 numbers_below_each ≡ term.Nest
+    (term.Lin 0 (Lit 0 ∷ []) (Bin sign.Ne (Var 0) (Len 0)) (term.Cons (term.Read 0 (Var 0)) (set_state (one_more 0 ∷ []))) (Var 1 ∷ []))
+    (term.Lin 1 (range_start (Lit 0) (Var 0) ∷ []) (Bin sign.Ne (Var 1) (Var 0)) (term.Cons (term.Let (Var 1)) (set_state (one_more 1 ∷ []))) (Var 2 ∷ []))
+numbers_below_each_core = refl
+
+-- an empty inner stream gives no row
+numbers_below_each_end : rows_of numbers_below_each (2 ∷ 0 ∷ 1 ∷ []) 3 ≡ one 0 (one 1 (one 0 (Ends End)))
+numbers_below_each_end = refl
+
+-- three items and 1, and for each item its numbers and 1
+numbers_below_each_work : work_of numbers_below_each (2 ∷ 0 ∷ 1 ∷ []) 3 ≡ 10
+numbers_below_each_work = refl
+
+-- zip(array a, array b)
+abbrev pairs : Pipe
+pairs = Zip (Array 0) (Array 1)
+
+abbrev two_arrays : List Input
+two_arrays = input.Array (1 ∷ 2 ∷ 3 ∷ []) ∷ input.Array (7 ∷ 8 ∷ []) ∷ []
+
+pairs_up_to_the_shorter : core_rows (core_at 0 pairs) [] two_arrays 3 ≡ Row (1 ∷ 7 ∷ []) (Row (2 ∷ 8 ∷ []) (Ends End))
+pairs_up_to_the_shorter = refl
+
+-- both arms count in full
+pairs_work : core_work (core_at 0 pairs) [] two_arrays 3 ≡ 7
+pairs_work = refl
 
 -- the left arm comes first, and its trap counts
 left_trap_counts : rows_of (Zip tenths (Range (Lit 0) (Lit 2))) (5 ∷ 2 ∷ 0 ∷ []) 3 ≡ Row (2 ∷ 0 ∷ []) (Row (5 ∷ 1 ∷ []) (Ends (Broken Trap)))

@@ -36,13 +36,6 @@ has_zip (Tr scope of init guard acts item) = has_zip of
 has_zip (Nest of inner) = has_zip of || has_zip inner
 has_zip (Zip left right) = true
 
--- no Nest and no Zip stands in the term: it is a Lin, and Trs over it
-abbrev pub is_flat : CoreTerm → Bool
-is_flat (Lin scope init guard acts item) = true
-is_flat (Tr scope of init guard acts item) = is_flat of
-is_flat (Nest of inner) = false
-is_flat (Zip left right) = false
-
 -- each turn of the acts that doesn't stop or trap gives a row: no KeepIf stands in them, at any depth
 abbrev mutual
   pub is_exact_action : Action → Bool

@@ -1,5 +1,5 @@
 -- The laws of the crates below that the core of a program rests on.
-use Rattle.std.specs.Prelude.{◌≡◌, ◌≤◌, ℕ, List, [], ◌∷◌, ◌++◌, length, slice_get, All, Some, false, IsTrue}
+use Rattle.std.specs.Prelude.{◌≡◌, ◌≤◌, ℕ, ◌+◌, List, [], ◌∷◌, ◌++◌, length, slice_get, All, Some, false, IsTrue}
 use Rattle.pipe_limits.specs.declared.TheConstants.{MOST_ITEMS}
 use Rattle.strm_num.specs.Words.{IsWord, sum_of, is_less}
 use Rattle.list_denotation.specs.declared.input.Input.{Input}
@@ -13,11 +13,13 @@ use Rattle.list_denotation.specs.InputNames.{declared_inputs}
 use Rattle.list_denotation.specs.Inputs.{items_in, Fits}
 use Rattle.list_denotation.specs.Limits.{IsWithinLimits}
 use Rattle.list_denotation.specs.Literals.{has_words, pipe_has_words, program_has_words}
+use Rattle.list_denotation.specs.Rows.{Rows, join_rows}
 use Rattle.list_denotation.specs.Scopes.{is_bound, all_bound}
 use Rattle.list_denotation.specs.Terms.{Term, Pipe}
 use Rattle.list_denotation.specs.Typing.{is_undivided, stream_kinds, is_typed}
 use Rattle.list_denotation.specs.Values.{Is, value, row_value}
-use Rattle.denotation_laws.specs.RowWords.{AreRows}
+use Rattle.list_denotation.specs.Work.{sum_over}
+use Rattle.denotation_laws.specs.RowWords.{IsRow, AreRows, IsRowOf}
 use Rattle.denotation_laws.specs.StreamScopes.{StreamReadsScope, FinishReadsScope}
 use Rattle.denotation_laws.specs.Widths.{stream_width}
 
@@ -48,6 +50,15 @@ pub record Laws : Type 0 where
       → Fits inputs kinds → length (items_in (slice_get inputs k)) ≤ MOST_ITEMS
   pub rows : (kinds : List InputKind) (inputs : List Input) (p : Pipe) (env : List ℕ) (n : ℕ)
       → Fits inputs kinds → IsTrue (pipe_has_words p) → All IsWord env → AreRows (stream_width p) (denotation p env inputs n)
+  pub side_by_side : (m n : ℕ) (r s : List ℕ) → IsRow m r → IsRow n s → IsRow (m + n) (r ++ s)
+  pub each_row : (n : ℕ) (r : List ℕ) (rows : Rows) → AreRows n rows → IsRowOf r rows → IsRow n r
+  -- of inner lists
+  pub joins : (f g : List ℕ → Rows) (rows : Rows)
+      → ((r : List ℕ) → IsRowOf r rows → f r ≡ g r) → join_rows rows f ≡ join_rows rows g
+  pub sums : (f g : List ℕ → Rows) (a b : List ℕ → ℕ) (rows : Rows)
+      → ((r : List ℕ) → IsRowOf r rows → f r ≡ g r)
+      → ((r : List ℕ) → IsRowOf r rows → a r ≡ b r)
+      → sum_over rows f a ◌+◌ 0 ≡ sum_over rows g b ◌+◌ 0
   -- of ranges
   pub range_goes_on : (low high : ℕ) → IsWord low → IsWord high → IsTrue (is_less low high)
       → words_between low high ≡ low ∷ words_between (sum_of low 1) high

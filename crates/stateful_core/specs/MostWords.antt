@@ -74,14 +74,15 @@ abbrev pub is_written_straight : ℕ → List Term → Bool
 is_written_straight first es = list_all (all_leaves (is_other_leaf first (length es))) es
 
 -- the words that acts add to those of a scope and a state: the local words, one for each word of an update that has to be
--- computed aside, one for each test, and two for each choice of acts
+-- computed aside, one for each test, and two for each choice of acts. A StopUnless counts as a choice with a test in it, which
+-- it becomes where it stops an inner stream alone
 module _ (scope : ℕ) where
   abbrev mutual
     pub action_words : Action → ℕ
     action_words (Let e) = 1
     action_words (Read k e) = 1
     action_words (KeepIf e) = 1
-    action_words (StopUnless e) = 1
+    action_words (StopUnless e) = 3
     action_words (Update k es) = if is_written_straight (scope + k) es then 0 else length es
     action_words (When e a b) = actions_words a + actions_words b + 2
 
@@ -93,13 +94,13 @@ module _ (scope : ℕ) where
 abbrev pub parts_words : ℕ → List Term → Actions → List Term → ℕ
 parts_words scope init acts item = length init + actions_words scope acts + length item
 
--- the words that a term adds to those of its scope. A Nest pays for a flag that an inner stream is open, a Zip for a flag
--- that the right arm is due and for the left row
+-- the words that a term adds to those of its scope. A Nest adds a flag that an inner stream is open, two choices of acts, and
+-- a test in each. A Zip adds a flag that the right arm is due, the left row once more, and a choice with a test
 abbrev pub added_words : CoreTerm → ℕ
 added_words (Lin scope init guard acts item) = parts_words scope init acts item
 added_words (Tr scope of init guard acts item) = added_words of + parts_words scope init acts item
-added_words (Nest of inner) = added_words of + added_words inner + 1
-added_words (Zip left right) = added_words left + added_words right + core_width left + 1
+added_words (Nest of inner) = added_words of + added_words inner + 7
+added_words (Zip left right) = added_words left + added_words right + core_width left + 4
 
 -- with those of the scope, six for each temporary, and 40 for what is done with the rows and for guards, at expressions of
 -- this depth

@@ -120,20 +120,6 @@ core_at e (stream.Scan of seed next) = scan_core e (stream_width of) (core_at e 
 core_at e (stream.FlatMap of inner) = Nest (core_at e of) (core_at (e + stream_width of) inner)
 core_at e (stream.Zip left right) = Zip (core_at e left) (core_at e right)
 
--- a source and stages: no `flatMap` and no `zip`
-abbrev pub is_chain : Pipe → Bool
-is_chain (stream.Array k) = true
-is_chain (stream.Range a b) = true
-is_chain (stream.Unfold seed guard item next) = true
-is_chain (stream.Map of body) = is_chain of
-is_chain (stream.Filter of e) = is_chain of
-is_chain (stream.Take of e) = is_chain of
-is_chain (stream.Drop of e) = is_chain of
-is_chain (stream.TakeWhile of e) = is_chain of
-is_chain (stream.Scan of seed next) = is_chain of
-is_chain (stream.FlatMap of inner) = false
-is_chain (stream.Zip left right) = false
-
 -- whether a `zip` stands in the stream, at any depth
 abbrev pub stream_has_zip : Pipe → Bool
 stream_has_zip (stream.Array k) = false

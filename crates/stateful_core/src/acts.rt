@@ -21,7 +21,7 @@ pub enum RowTest {
     Stop,
 }
 
-/// A row of one expression.
+/// A row of one expression. The one error is `NoMemory`.
 pub fn single(alloc: Global, e: Box<Expr>) -> Result<Exprs, NoMemory>
     ensures { IfOk result (λ made. terms_of made ≡ term_of e.value ∷ []) }
 {
@@ -42,7 +42,7 @@ pub fn push_lets(alloc: Global, es: &Exprs, acts: &mut Acts) -> Result<(), NoMem
     Ok(())
 }
 
-/// Appends the act that writes a row over the state.
+/// Appends the act that writes a row over the state. The one error is `NoMemory`.
 #[tactic(auto, using(crate::proofs::AppendedActs::set_steps))]
 pub fn push_set(es: Exprs, acts: &mut Acts) -> Result<(), NoMemory>
     ensures { OnOk result (actions_of acts.new

@@ -5,8 +5,7 @@
 //! work, the test of well-formed terms and the bound on its words stand in `specs/`, on plain
 //! copies of the terms, and so does the core of a stream. `core_of` carries the promise: the core
 //! of a program is well formed, names its inputs alone, has the lists of its stream at each input
-//! that fits and each bound, with their work, and few words. It takes streams for which `is_chain`
-//! holds.
+//! that fits and each bound, with their work, and few words.
 #![tactic(auto)]
 
 mod acts;
@@ -15,8 +14,7 @@ mod expressions;
 mod program_core;
 mod stream_core;
 
-pub use acts::push_lets;
+pub use acts::{push_lets, push_set, single};
 pub use core_term::{Act, Acts, Core};
-pub use expressions::{boxed, copies, copy, is_undivided};
+pub use expressions::{boxed, copies, copy, is_undivided, variables};
 pub use program_core::core_of;
-pub use stream_core::is_chain;

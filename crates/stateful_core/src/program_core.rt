@@ -1,19 +1,17 @@
 //! The core of a program.
 
-ghost use Rattle.std.specs.Prelude.{IfOk, IsTrue};
-ghost use Rattle.list_denotation.specs.Copies.{pipe_of};
+ghost use Rattle.std.specs.Prelude.{IfOk};
 ghost use Rattle.list_denotation.specs.Pipelines.{pipeline_of};
 ghost use Rattle.stateful_core.specs.CoreCopies.{core_term_of};
 ghost use Rattle.stateful_core.specs.CorePromise.{IsCoreOf};
-ghost use Rattle.stateful_core.specs.CoreShapes.{is_flat};
 ghost use Rattle.stateful_core.specs.Laws.{Laws};
-ghost use Rattle.stateful_core.specs.StreamCores.{is_chain};
 
 use crate::core_term::Core;
 use crate::stream_core::core_at;
 use denotation_laws::{
-    expressions_read_bound_words_alone, ranges_and_counts_go_by_one, rows_have_their_width,
-    typed_streams_read_their_scopes, undivided_expressions_have_values, values_are_words,
+    expressions_read_bound_words_alone, joined_rows_depend_on_inner_lists,
+    ranges_and_counts_go_by_one, rows_have_their_width, typed_streams_read_their_scopes,
+    undivided_expressions_have_values, values_are_words,
 };
 use list_denotation::{Program, typed_programs_keep_limits};
 use std::alloc::Global;
@@ -29,17 +27,15 @@ fn laws_below()
     undivided_expressions_have_values();
     values_are_words();
     rows_have_their_width();
+    joined_rows_depend_on_inner_lists();
     ranges_and_counts_go_by_one();
 }
 
-/// The core of a program whose stream is a chain: a source and stages, no `flatMap` and no `zip`.
-/// It is well formed and stands in the scope of no words, has the lists of the stream at each
-/// input that fits and each bound, and its work is that of the stream. The one error is
-/// `NoMemory`.
+/// The core of a program's stream. It is well formed and stands in the scope of no words, has the
+/// lists of the stream at each input that fits and each bound, and its work is that of the stream.
+/// The one error is `NoMemory`.
 pub fn core_of(alloc: Global, p: &Program) -> Result<Core, NoMemory>
-    requires { IsTrue (is_chain (pipe_of p.now.stream)) }
-    ensures core { IfOk result (λ c. IsCoreOf (pipeline_of p.now) (core_term_of c)) }
-    ensures flat { IfOk result (λ c. IsTrue (is_flat (core_term_of c))) }
+    ensures { IfOk result (λ c. IsCoreOf (pipeline_of p.now) (core_term_of c)) }
 {
     laws_below();
     Ok(Box::into_inner(core_at(alloc, &p.stream, 0)?))

@@ -1,13 +1,14 @@
 //! The core of a stream: what each source and each stage becomes.
 
-ghost use Rattle.std.specs.Prelude.{◌≡◌, ◌+◌, ◌<◌, ◌≤◌, ◌^◌, [], ◌∷◌, length, IfOk, IsTrue};
+ghost use Rattle.std.specs.Prelude.{◌≡◌, ◌+◌, ◌*◌, ◌<◌, ◌≤◌, ◌^◌, [], ◌∷◌, length, IfOk, IsTrue};
 ghost use Rattle.pipe_limits.specs.declared.TheConstants.{MOST_COMPONENTS};
 ghost use Rattle.list_denotation.specs.declared.expr.BinOp.TheVariants.{Ne};
 ghost use Rattle.list_denotation.specs.Copies.{term_of, terms_of, pipe_of};
+ghost use Rattle.list_denotation.specs.Counts.{stream_ops};
 ghost use Rattle.list_denotation.specs.InputNames.{InputNames};
 ghost use Rattle.list_denotation.specs.Terms.{Bin, Var};
 ghost use Rattle.denotation_laws.specs.StreamScopes.{StreamReadsScope};
-ghost use Rattle.stateful_core.specs.CoreTerms.{Cons, Lin, Tr};
+ghost use Rattle.stateful_core.specs.CoreTerms.{Cons, Lin, Tr, Nest, Zip};
 ghost use Rattle.stateful_core.specs.CoreCopies.{action_of, actions_of, core_term_of};
 ghost use Rattle.stateful_core.specs.RowTests.{test_action};
 ghost use Rattle.stateful_core.specs.StreamCores.{variables, set_state, one_more};
@@ -15,7 +16,7 @@ ghost use Rattle.stateful_core.specs.StreamCores.{rows_asked, drop_acts, array_c
 ghost use Rattle.stateful_core.specs.StreamCores.{range_start, range_core};
 ghost use Rattle.stateful_core.specs.StreamCores.{unfold_core, map_core, test_core, take_core};
 ghost use Rattle.stateful_core.specs.StreamCores.{drop_core, scan_core, core_at};
-ghost use Rattle.stateful_core.specs.StreamCores.{stream_width, is_chain};
+ghost use Rattle.stateful_core.specs.StreamCores.{stream_width};
 
 use crate::acts::{RowTest, push_count, push_lets, push_state, row_test, single};
 use crate::core_term::{Act, Acts, Core};
@@ -329,12 +330,27 @@ fn stream_width(s: &Stream) -> u32
     }
 }
 
+/// Inner rows for each row.
+fn nest_core(alloc: Global, of: Box<Core>, inner: Box<Core>) -> Result<Box<Core>, NoMemory>
+    ensures { IfOk result (λ made. core_term_of made.value
+        ≡ Nest (core_term_of of.value) (core_term_of inner.value)) }
+{
+    Ok(Box::new(alloc, Core::Nest { of, inner })?)
+}
+
+/// Rows side by side.
+fn zip_core(alloc: Global, left: Box<Core>, right: Box<Core>) -> Result<Box<Core>, NoMemory>
+    ensures { IfOk result (λ made. core_term_of made.value
+        ≡ Zip (core_term_of left.value) (core_term_of right.value)) }
+{
+    Ok(Box::new(alloc, Core::Zip { left, right })?)
+}
+
 /// The core of a stream in a scope of so many bound words.
 #[tactic(auto, using(crate::proofs::StreamScopes::scope_steps))]
 pub fn core_at(alloc: Global, s: &Stream, scope: u32) -> Result<Box<Core>, NoMemory>
-    requires chain { IsTrue (is_chain (pipe_of s.now)) }
     requires scoped { (may : InputNames) × StreamReadsScope may scope (pipe_of s.now) }
-    requires room { scope < 2 ^ 16 }
+    requires room { scope + MOST_COMPONENTS * stream_ops (pipe_of s.now) < 2 ^ 16 }
     ensures { IfOk result (λ made. core_term_of made.value ≡ core_at scope (pipe_of s.now)) }
 {
     match s {
@@ -370,22 +386,15 @@ pub fn core_at(alloc: Global, s: &Stream, scope: u32) -> Result<Box<Core>, NoMem
             let below = core_at(alloc, of, scope)?;
             scan_core(alloc, scope, stream_width(of), below, seed, next)
         }
-        Stream::FlatMap(_, _) | Stream::Zip(_, _) => unreachable!(),
-    }
-}
-
-/// Whether a stream is a chain, a source and stages: no `flatMap` and no `zip` stands in it.
-pub fn is_chain(s: &Stream) -> bool
-    ensures { result ≡ is_chain (pipe_of s.now) }
-{
-    match s {
-        Stream::Array(_) | Stream::Range(_, _) | Stream::Unfold { .. } => true,
-        Stream::Map(of, _) => is_chain(of),
-        Stream::Filter(of, _) => is_chain(of),
-        Stream::Take(of, _) => is_chain(of),
-        Stream::Drop(of, _) => is_chain(of),
-        Stream::TakeWhile(of, _) => is_chain(of),
-        Stream::Scan { of, .. } => is_chain(of),
-        Stream::FlatMap(_, _) | Stream::Zip(_, _) => false,
+        Stream::FlatMap(of, inner) => {
+            let outer = core_at(alloc, of, scope)?;
+            let inner = core_at(alloc, inner, scope + stream_width(of))?;
+            nest_core(alloc, outer, inner)
+        }
+        Stream::Zip(left, right) => {
+            let left = core_at(alloc, left, scope)?;
+            let right = core_at(alloc, right, scope)?;
+            zip_core(alloc, left, right)
+        }
     }
 }

@@ -5,7 +5,7 @@ use Rattle.strm_io.specs.Writing.{Appends}
 use Rattle.strm_io.specs.Appending.{AppendsPrefix}
 use Rattle.status_lines.specs.declared.refusals.Refusal.{Refusal}
 use Rattle.status_lines.specs.declared.refusals.RefusalKind.{RefusalKind}
-use Rattle.status_lines.specs.declared.refusals.RefusalKind.TheVariants.{NotUtf8, BadChar, NumberTooLarge, Syntax, TooDeep, TooManyInputs, TooManyOps, TooManyNodes, Unknown, Twice, Mismatch, WidthMismatch, TooWide, DivisionInOpening, NotArray, Unbuilt}
+use Rattle.status_lines.specs.declared.refusals.RefusalKind.TheVariants.{NotUtf8, BadChar, NumberTooLarge, Syntax, TooDeep, TooManyInputs, TooManyOps, TooManyNodes, Unknown, Twice, Mismatch, WidthMismatch, TooWide, DivisionInOpening, NotArray}
 use Rattle.status_lines.specs.declared.statuses.Status.{Status}
 use Rattle.status_lines.specs.declared.statuses.Status.TheVariants.{Done, Words, Missing, Refused, ReadFault, WriteFault, NoMemory, TooLong}
 
@@ -35,7 +35,6 @@ kind_text WidthMismatch = codes "WidthMismatch"
 kind_text TooWide = codes "TooWide"
 kind_text DivisionInOpening = codes "DivisionInOpening"
 kind_text NotArray = codes "NotArray"
-kind_text Unbuilt = codes "Unbuilt"
 
 -- the kind and the place
 abbrev pub refusal_text : Refusal → List ℕ

@@ -35,8 +35,6 @@ pub enum RefusalKind {
     DivisionInOpening,
     /// The name at the offset is in scope and no array input.
     NotArray,
-    /// The text is a pipeline that isn't compiled yet. The offset is 0. `compile` alone answers it.
-    Unbuilt,
 }
 
 impl RefusalKind {
@@ -60,7 +58,6 @@ impl RefusalKind {
             RefusalKind::TooWide => "TooWide",
             RefusalKind::DivisionInOpening => "DivisionInOpening",
             RefusalKind::NotArray => "NotArray",
-            RefusalKind::Unbuilt => "Unbuilt",
         }
     }
 }

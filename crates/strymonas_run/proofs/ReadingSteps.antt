@@ -23,7 +23,7 @@ use Rattle.list_denotation.specs.Pipelines.{pipeline_of}
 use Rattle.list_denotation.specs.Terms.{Pipeline}
 use Rattle.status_lines.specs.declared.refusals.Refusal.{Refusal}
 use Rattle.status_lines.specs.declared.refusals.RefusalKind.{RefusalKind}
-use Rattle.status_lines.specs.declared.refusals.RefusalKind.TheVariants.{NotUtf8, BadChar, NumberTooLarge, Syntax, TooDeep, TooManyInputs, TooManyOps, TooManyNodes, Unknown, Twice, Mismatch, WidthMismatch, TooWide, DivisionInOpening, NotArray, Unbuilt}
+use Rattle.status_lines.specs.declared.refusals.RefusalKind.TheVariants.{NotUtf8, BadChar, NumberTooLarge, Syntax, TooDeep, TooManyInputs, TooManyOps, TooManyNodes, Unknown, Twice, Mismatch, WidthMismatch, TooWide, DivisionInOpening, NotArray}
 use Rattle.pipe_limits.specs.declared.TheConstants.{MOST_BYTES}
 use Rattle.strymonas_run.specs.declared.text_faults.TextFault.{TextFault}
 use Rattle.strymonas_run.specs.declared.text_faults.TextFault.TheVariants.{Refused, NoMemory}
@@ -86,7 +86,6 @@ tokens_of_refused src WidthMismatch at h = tokens_of_text src h.text.toks _ h.te
 tokens_of_refused src TooWide at h = tokens_of_text src h.text.toks _ h.text.lexed
 tokens_of_refused src DivisionInOpening at h = tokens_of_text src h.text.toks _ h.text.lexed
 tokens_of_refused src NotArray at h = tokens_of_text src h.text.toks _ h.text.lexed
-tokens_of_refused src Unbuilt at h = absurd h
 
 pub tokens_of : (src : List ℕ) (outcome : ReadOutcome) → Says src outcome → TokensOf src outcome
 tokens_of src (Ok p) h = tokens_of_text src h.1.toks (Ok p) h.1.lexed
@@ -225,7 +224,6 @@ module _ (src : List ℕ) (toks : List Token) (lexed : IsLexed src toks) (only_t
   tree_of_refused TooWide at h = tree_of_kinds TooWide at (types.TooWide at) h refl
   tree_of_refused DivisionInOpening at h = tree_of_kinds DivisionInOpening at (types.DivisionInOpening at) h refl
   tree_of_refused NotArray at h = tree_of_kinds NotArray at (types.NotArray at) h refl
-  tree_of_refused Unbuilt at h = absurd h
 
   pub tree_of : (outcome : ReadOutcome) → Says src outcome → TreeOf (length src) whats outcome
   tree_of (Ok p) h = record {

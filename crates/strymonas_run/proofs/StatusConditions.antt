@@ -1,6 +1,6 @@
 -- When each status comes, from what each status says.
 use Rattle.std.proofs.Common.{◌≡◌, inl, inr, ℕ, ◌<◌, ◌≤◌, List, length, Option, Some, None, Ok, Err, refl, sym, ap, subst, arith}
-use Rattle.std.specs.Prelude.{IsSomeAnd, IsTrue}
+use Rattle.std.specs.Prelude.{IsSomeAnd}
 use Rattle.strm_io.specs.Counts.{Rose}
 use Rattle.strm_io.specs.Store.{Store, held}
 use Rattle.list_denotation.specs.Terms.{Pipeline}
@@ -10,7 +10,8 @@ use Rattle.status_lines.specs.declared.refusals.Refusal.{Refusal}
 use Rattle.status_lines.specs.declared.statuses.Status.{Status}
 use Rattle.status_lines.specs.declared.statuses.Status.TheVariants.{Done, Words, Missing, Refused, ReadFault, WriteFault, NoMemory, TooLong}
 use Rattle.strymonas_run.specs.PipelineFile.{IsPipelineFile}
-use Rattle.strymonas_run.specs.Jobs.{takes, IsOutputOf, IsRefusedBy, Answers, HasCause, ComesWhere, IsMissingFile, IsTooLongFile, IsNoPipeline, IsRefusedFile, IsRefusal, IsComplete}
+use Rattle.strymonas_run.specs.Refusals.{IsRefused}
+use Rattle.strymonas_run.specs.Jobs.{IsOutputOf, Answers, HasCause, ComesWhere, IsMissingFile, IsTooLongFile, IsNoPipeline, IsRefusedFile, IsRefusal, IsComplete}
 
 -- what is held under a name and passes is what is known to be held
 same_file : (file : Option (List ℕ)) (src : List ℕ) (fact : List ℕ → Type 0) → file ≡ Some src → IsSomeAnd file fact → fact src
@@ -57,15 +58,15 @@ too_long_condition (Some job) (Some store) name out out' ReadFault h = ((λ e. a
 too_long_condition (Some job) (Some store) name out out' NoMemory h = ((λ e. absurd cc), (λ long. inr (inr refl)))
 too_long_condition (Some job) (Some store) name out out' Words h = absurd h
 
--- no pipeline that the job takes
-abbrev NotTaken : Job → List ℕ → Type 0
-NotTaken job src = (p : Pipeline) → IsPipelineFile src p → IsTrue (takes job p) → ⊥
+-- no pipeline, and not too long
+abbrev NoPipeline : List ℕ → Type 0
+NoPipeline src = (p : Pipeline) → IsPipelineFile src p → ⊥
 
-abbrev NoPipeline : Job → List ℕ → Type 0
-NoPipeline job src = (length src ≤ MOST_BYTES) × NotTaken job src
+abbrev NoPipelineWithin : List ℕ → Type 0
+NoPipelineWithin src = (length src ≤ MOST_BYTES) × NoPipeline src
 
-abbrev RefusedSource : Job → Refusal → List ℕ → Type 0
-RefusedSource job r src = (length src ≤ MOST_BYTES) × IsRefusedBy job src r
+abbrev RefusedWithin : Refusal → List ℕ → Type 0
+RefusedWithin r src = (length src ≤ MOST_BYTES) × IsRefused src r
 
 -- a file that is too long isn't also one that is not
 both_lengths : (file : Option (List ℕ)) (fact : List ℕ → Type 0) → IsSomeAnd file (λ src. MOST_BYTES < length src) → IsSomeAnd file (λ src. (length src ≤ MOST_BYTES) × fact src) → ⊥
@@ -76,41 +77,37 @@ pub refused_condition : (asked : Option Job) (store : Option Store) (name : List
 refused_condition None store name out out' s h = tt
 refused_condition (Some job) None name out out' s h = tt
 refused_condition (Some job) (Some store) name out out' Done h =
-    ((λ e. absurd (cc e.1)), (λ none. absurd ((same_file (held store name) h.src (NoPipeline job) h.holds none).1 h.output.pipeline h.output.outcome.has h.output.taken)))
+    ((λ e. absurd (cc e.1)), (λ none. absurd ((same_file (held store name) h.src NoPipelineWithin h.holds none).1 h.output.pipeline h.output.outcome.has)))
 refused_condition (Some job) (Some store) name out out' WriteFault h =
-    ((λ e. absurd (cc e.1)), (λ none. absurd ((same_file (held store name) h.src (NoPipeline job) h.holds none).1 h.output.pipeline h.output.outcome.has h.output.taken)))
+    ((λ e. absurd (cc e.1)), (λ none. absurd ((same_file (held store name) h.src NoPipelineWithin h.holds none).1 h.output.pipeline h.output.outcome.has)))
 refused_condition (Some job) (Some store) name out out' Missing h =
-    ((λ e. absurd (cc e.1)), (λ none. absurd (is_some (held store name) (NoPipeline job) h.0 none)))
+    ((λ e. absurd (cc e.1)), (λ none. absurd (is_some (held store name) NoPipelineWithin h.0 none)))
 refused_condition (Some job) (Some store) name out out' TooLong h =
-    ((λ e. absurd (cc e.1)), (λ none. absurd (both_lengths (held store name) (NotTaken job) h.0 none)))
+    ((λ e. absurd (cc e.1)), (λ none. absurd (both_lengths (held store name) NoPipeline h.0 none)))
 refused_condition (Some job) (Some store) name out out' (Refused r) h =
-    ((λ e. held_so (held store name) h.0.src (NoPipeline job) h.0.holds (h.0.within, h.0.refuses.no_pipeline)), (λ none. inl (r, refl)))
+    ((λ e. held_so (held store name) h.0.src NoPipelineWithin h.0.holds (h.0.within, h.0.refuses.no_pipeline)), (λ none. inl (r, refl)))
 refused_condition (Some job) (Some store) name out out' ReadFault h = ((λ e. absurd (cc e.1)), (λ none. inr (inl refl)))
 refused_condition (Some job) (Some store) name out out' NoMemory h = ((λ e. absurd (cc e.1)), (λ none. inr (inr refl)))
 refused_condition (Some job) (Some store) name out out' Words h = absurd h
 
 -- that for which the job is done isn't refused
-not_refused : (job : Job) (src c : List ℕ) (r : Refusal) → IsOutputOf job src c → IsRefusedBy job src r → ⊥
-not_refused job src c r h (inl is) = let e : Err r ≡ Ok h.pipeline = h.outcome.only (Err r) is in absurd cc
-not_refused job src c r h (inr is) =
-    let e : Ok is.0.pipeline ≡ Ok h.pipeline = h.outcome.only (Ok is.0.pipeline) is.0.file in
-    let same : is.0.pipeline ≡ h.pipeline = cc in
-    absurd (cc (ap (takes job) same, is.0.not_taken, h.taken))
+not_refused : (job : Job) (src c : List ℕ) (r : Refusal) → IsOutputOf job src c → IsRefused src r → ⊥
+not_refused job src c r h is = let e : Err r ≡ Ok h.pipeline = h.outcome.only (Err r) is in absurd cc
 
 pub reason_condition : (asked : Option Job) (store : Option Store) (name : List ℕ) (out out' : Option (List ℕ)) (s : Status) → Answers asked store name out out' s → (r : Refusal) → ComesWhere asked store name (IsRefusedFile r) (λ status. status ≡ Refused r) s
 reason_condition None store name out out' s h r = tt
 reason_condition (Some job) None name out out' s h r = tt
 reason_condition (Some job) (Some store) name out out' Done h r =
-    ((λ e. absurd cc), (λ is. absurd (not_refused job h.src h.c r h.output (same_file (held store name) h.src (RefusedSource job r) h.holds is).1)))
+    ((λ e. absurd cc), (λ is. absurd (not_refused job h.src h.c r h.output (same_file (held store name) h.src (RefusedWithin r) h.holds is).1)))
 reason_condition (Some job) (Some store) name out out' WriteFault h r =
-    ((λ e. absurd cc), (λ is. absurd (not_refused job h.src h.c r h.output (same_file (held store name) h.src (RefusedSource job r) h.holds is).1)))
+    ((λ e. absurd cc), (λ is. absurd (not_refused job h.src h.c r h.output (same_file (held store name) h.src (RefusedWithin r) h.holds is).1)))
 reason_condition (Some job) (Some store) name out out' Missing h r =
-    ((λ e. absurd cc), (λ is. absurd (is_some (held store name) (RefusedSource job r) h.0 is)))
+    ((λ e. absurd cc), (λ is. absurd (is_some (held store name) (RefusedWithin r) h.0 is)))
 reason_condition (Some job) (Some store) name out out' TooLong h r =
-    ((λ e. absurd cc), (λ is. absurd (both_lengths (held store name) (λ src. IsRefusedBy job src r) h.0 is)))
+    ((λ e. absurd cc), (λ is. absurd (both_lengths (held store name) (λ src. IsRefused src r) h.0 is)))
 reason_condition (Some job) (Some store) name out out' (Refused other) h r = (
-  (λ e. let o : other ≡ r = cc in held_so (held store name) h.0.src (RefusedSource job r) h.0.holds (h.0.within, subst (IsRefusedBy job h.0.src) o h.0.refuses.reason)),
-  (λ is. inl (ap (λ (q : Refusal). Refused q) (sym (h.0.refuses.only r (same_file (held store name) h.0.src (RefusedSource job r) h.0.holds is).1)))),
+  (λ e. let o : other ≡ r = cc in held_so (held store name) h.0.src (RefusedWithin r) h.0.holds (h.0.within, subst (IsRefused h.0.src) o h.0.refuses.reason)),
+  (λ is. inl (ap (λ (q : Refusal). Refused q) (sym (h.0.refuses.only r (same_file (held store name) h.0.src (RefusedWithin r) h.0.holds is).1)))),
 )
 reason_condition (Some job) (Some store) name out out' ReadFault h r = ((λ e. absurd cc), (λ is. inr (inl refl)))
 reason_condition (Some job) (Some store) name out out' NoMemory h r = ((λ e. absurd cc), (λ is. inr (inr refl)))
@@ -119,20 +116,20 @@ reason_condition (Some job) (Some store) name out out' Words h r = absurd h
 pub is_complete : (asked : Option Job) (store : Option Store) (name : List ℕ) (out out' : Option (List ℕ)) (misses misses' faults faults' out_faults out_faults' : ℕ) (s : Status) → Answers asked store name out out' s → HasCause misses misses' faults faults' out_faults out_faults' s → IsComplete asked store name (Rose faults faults') (Rose out_faults out_faults') s
 is_complete None store name out out' m m' f f' o o' s h cause = tt
 is_complete (Some job) None name out out' m m' f f' o o' s h cause = tt
-is_complete (Some job) (Some store) name out out' m m' f f' o o' Done h cause = λ p is taken read write. inl refl
-is_complete (Some job) (Some store) name out out' m m' f f' o o' WriteFault h cause = λ p is taken read write. absurd (write cause)
-is_complete (Some job) (Some store) name out out' m m' f f' o o' Missing h cause = λ p is taken read write.
+is_complete (Some job) (Some store) name out out' m m' f f' o o' Done h cause = λ p is read write. inl refl
+is_complete (Some job) (Some store) name out out' m m' f f' o o' WriteFault h cause = λ p is read write. absurd (write cause)
+is_complete (Some job) (Some store) name out out' m m' f f' o o' Missing h cause = λ p is read write.
     absurd (is_some (held store name) (λ src. IsPipelineFile src p) h.0 is)
-is_complete (Some job) (Some store) name out out' m m' f f' o o' TooLong h cause = λ p is taken read write.
+is_complete (Some job) (Some store) name out out' m m' f f' o o' TooLong h cause = λ p is read write.
     absurd (too_long_file (held store name) p h.0 is)
   where
     too_long_file : (file : Option (List ℕ)) (p : Pipeline) → IsSomeAnd file (λ src. MOST_BYTES < length src) → IsSomeAnd file (λ src. IsPipelineFile src p) → ⊥
     too_long_file None p long is = long
     too_long_file (Some src) p long is = omega (arith, long, is.within)
-is_complete (Some job) (Some store) name out out' m m' f f' o o' (Refused r) h cause = λ p is taken read write.
-    absurd (h.0.refuses.no_pipeline p (same_file (held store name) h.0.src (λ src. IsPipelineFile src p) h.0.holds is) taken)
-is_complete (Some job) (Some store) name out out' m m' f f' o o' ReadFault h cause = λ p is taken read write. absurd (read cause)
-is_complete (Some job) (Some store) name out out' m m' f f' o o' NoMemory h cause = λ p is taken read write. inr refl
+is_complete (Some job) (Some store) name out out' m m' f f' o o' (Refused r) h cause = λ p is read write.
+    absurd (h.0.refuses.no_pipeline p (same_file (held store name) h.0.src (λ src. IsPipelineFile src p) h.0.holds is))
+is_complete (Some job) (Some store) name out out' m m' f f' o o' ReadFault h cause = λ p is read write. absurd (read cause)
+is_complete (Some job) (Some store) name out out' m m' f f' o o' NoMemory h cause = λ p is read write. inr refl
 is_complete (Some job) (Some store) name out out' m m' f f' o o' Words h cause = absurd h
 
 pub ruleset conditions = (missing_condition, too_long_condition, refused_condition, reason_condition, is_complete)

@@ -1,5 +1,5 @@
 -- What the commands answer.
-use Rattle.std.specs.Prelude.{◌≡◌, ℕ, ◌<◌, ◌≤◌, ◌⊎◌, List, length, Option, Some, None, Bool, true, false, Result, Ok, Err, IsTrue, IsSomeAnd}
+use Rattle.std.specs.Prelude.{◌≡◌, ℕ, ◌<◌, ◌≤◌, ◌⊎◌, List, length, Option, Some, None, Result, Ok, Err, IsSomeAnd}
 use Rattle.std.specs.Global.{Vec}
 use Rattle.strm_io.specs.Counts.{Rose}
 use Rattle.strm_io.specs.Store.{Store, held}
@@ -12,10 +12,8 @@ use Rattle.strymonas_run.specs.declared.commands.Job.TheVariants.{Compile, Check
 use Rattle.strymonas_run.specs.declared.text_faults.TextFault.{TextFault}
 use Rattle.strymonas_run.specs.declared.text_faults.TextFault.TheVariants as text
 use Rattle.status_lines.specs.declared.refusals.Refusal.{Refusal}
-use Rattle.status_lines.specs.declared.refusals.RefusalKind.TheVariants.{Unbuilt}
 use Rattle.status_lines.specs.declared.statuses.Status.{Status}
 use Rattle.status_lines.specs.declared.statuses.Status.TheVariants.{Done, Words, Missing, Refused, ReadFault, WriteFault, NoMemory, TooLong}
-use Rattle.stateful_core.specs.StreamCores.{is_chain}
 use Rattle.strymonas_run.specs.PipelineFile.{IsPipelineFile}
 use Rattle.strymonas_run.specs.Refusals.{IsRefused}
 use Rattle.strymonas_run.specs.ReadOutcomes.{IsOnlyOutcome}
@@ -25,12 +23,7 @@ use Rattle.loop_ir.specs.Layout.{layout}
 use Rattle.loop_emit.specs.Headline.{IsEmitted}
 use Rattle.count_lines.specs.CountLines.{counts_text}
 
--- ---- what a job takes, and what it writes
-
--- `check` takes every pipeline, and `compile` those without `flatMap` and `zip`
-abbrev pub takes : Job → Pipeline → Bool
-takes Check p = true
-takes Compile p = is_chain p.stream
+-- ---- what a job writes
 
 -- the bytes are the C text of a program of the pipeline
 pub record IsTextOf (p : Pipeline) (c : List ℕ) : Type 0 where
@@ -47,29 +40,13 @@ Writes Compile p c = IsTextOf p c
 pub record IsOutputOf (job : Job) (src c : List ℕ) : Type 0 where
   pub pipeline : Pipeline
   pub outcome : IsOnlyOutcome src (Ok pipeline)
-  pub taken : IsTrue (takes job pipeline)
   pub output : Writes job pipeline c
 
--- ---- why a job isn't done for a file
-
-abbrev pub unbuilt : Refusal
-unbuilt = record { kind = Unbuilt; at = 0 }
-
--- the file is a pipeline that the job doesn't take
-pub record IsNotTaken (job : Job) (src : List ℕ) : Type 0 where
-  pub pipeline : Pipeline
-  pub file : IsPipelineFile src pipeline
-  pub not_taken : takes job pipeline ≡ false
-
--- the reasons: the file is refused for this one, or it is `Unbuilt` at 0
-abbrev pub IsRefusedBy : Job → List ℕ → Refusal → Type 0
-IsRefusedBy job src r = IsRefused src r ⊎ (IsNotTaken job src × (r ≡ unbuilt))
-
--- the job isn't done for the file, for this reason and no other
-pub record Refuses (job : Job) (src : List ℕ) (r : Refusal) : Type 0 where
-  pub reason : IsRefusedBy job src r
-  pub only : (other : Refusal) → IsRefusedBy job src other → other ≡ r
-  pub no_pipeline : (p : Pipeline) → IsPipelineFile src p → IsTrue (takes job p) → ⊥
+-- the file is refused for this reason and no other, and is no pipeline
+pub record Refuses (src : List ℕ) (r : Refusal) : Type 0 where
+  pub reason : IsRefused src r
+  pub only : (other : Refusal) → IsRefused src other → other ≡ r
+  pub no_pipeline : (p : Pipeline) → IsPipelineFile src p → ⊥
 
 -- ---- what each status says
 
@@ -91,12 +68,12 @@ pub record WritesOutput (job : Job) (store : Option Store) (name : List ℕ) (wr
   pub output : IsOutputOf job src c
   pub writes_it : writes c
 
--- the file was loaded, and the job isn't done for it, for this reason and no other
-pub record RefusesFile (job : Job) (store : Option Store) (name : List ℕ) (r : Refusal) : Type 0 where
+-- the file was loaded, and is refused for this reason and no other
+pub record RefusesFile (store : Option Store) (name : List ℕ) (r : Refusal) : Type 0 where
   pub src : List ℕ
   pub holds : Holds store name (Some src)
   pub within : length src ≤ MOST_BYTES
-  pub refuses : Refuses job src r
+  pub refuses : Refuses src r
 
 -- what each status says of the file and of what was written
 abbrev pub AnswersFile : Job → Option Store → List ℕ → Option (List ℕ) → Option (List ℕ) → Status → Type 0
@@ -104,7 +81,7 @@ AnswersFile job store name out out' Done = WritesOutput job store name (Appends 
 AnswersFile job store name out out' WriteFault = WritesOutput job store name (AppendsPrefix out out')
 AnswersFile job store name out out' Missing = Holds store name None × (out' ≡ out)
 AnswersFile job store name out out' TooLong = HoldsTooLong store name × (out' ≡ out)
-AnswersFile job store name out out' (Refused r) = RefusesFile job store name r × (out' ≡ out)
+AnswersFile job store name out out' (Refused r) = RefusesFile store name r × (out' ≡ out)
 AnswersFile job store name out out' ReadFault = out' ≡ out
 AnswersFile job store name out out' NoMemory = out' ≡ out
 AnswersFile job store name out out' Words = ⊥
@@ -131,64 +108,57 @@ abbrev pub IsUnlessStopped : (Status → Type 0) → Status → Type 0
 IsUnlessStopped wanted status = wanted status ⊎ ((status ≡ ReadFault) ⊎ (status ≡ NoMemory))
 
 -- over a store that tells, such a status comes exactly where the file is so
-abbrev pub ComesWhere : Option Job → Option Store → List ℕ → (Job → Option (List ℕ) → Type 0) → (Status → Type 0) → Status → Type 0
+abbrev pub ComesWhere : Option Job → Option Store → List ℕ → (Option (List ℕ) → Type 0) → (Status → Type 0) → Status → Type 0
 ComesWhere None store name fact wanted status = Unit {0}
 ComesWhere (Some job) None name fact wanted status = Unit {0}
 ComesWhere (Some job) (Some store) name fact wanted status =
-    (wanted status → fact job (held store name)) × (fact job (held store name) → IsUnlessStopped wanted status)
+    (wanted status → fact (held store name)) × (fact (held store name) → IsUnlessStopped wanted status)
 
-abbrev pub IsMissingFile : Job → Option (List ℕ) → Type 0
-IsMissingFile job file = file ≡ None
+abbrev pub IsMissingFile : Option (List ℕ) → Type 0
+IsMissingFile file = file ≡ None
 
-abbrev pub IsTooLongFile : Job → Option (List ℕ) → Type 0
-IsTooLongFile job file = IsSomeAnd file (λ src. MOST_BYTES < length src)
+abbrev pub IsTooLongFile : Option (List ℕ) → Type 0
+IsTooLongFile file = IsSomeAnd file (λ src. MOST_BYTES < length src)
 
--- the file is held, isn't too long, and is no pipeline that the job takes
-abbrev pub IsNoPipeline : Job → Option (List ℕ) → Type 0
-IsNoPipeline job file =
-    IsSomeAnd file (λ src. (length src ≤ MOST_BYTES) × ((p : Pipeline) → IsPipelineFile src p → IsTrue (takes job p) → ⊥))
+-- the file is held, isn't too long, and is no pipeline
+abbrev pub IsNoPipeline : Option (List ℕ) → Type 0
+IsNoPipeline file = IsSomeAnd file (λ src. (length src ≤ MOST_BYTES) × ((p : Pipeline) → IsPipelineFile src p → ⊥))
 
 -- the file is held, isn't too long, and there is this reason
-abbrev pub IsRefusedFile : Refusal → Job → Option (List ℕ) → Type 0
-IsRefusedFile r job file = IsSomeAnd file (λ src. (length src ≤ MOST_BYTES) × IsRefusedBy job src r)
+abbrev pub IsRefusedFile : Refusal → Option (List ℕ) → Type 0
+IsRefusedFile r file = IsSomeAnd file (λ src. (length src ≤ MOST_BYTES) × IsRefused src r)
 
 -- the status names some reason
 abbrev pub IsRefusal : Status → Type 0
 IsRefusal status = (r : Refusal) × (status ≡ Refused r)
 
--- over a store that tells, the job is done for a pipeline that is held and that it takes, unless a count of
--- faults rose
+-- over a store that tells, the job is done for each pipeline that is held, unless a count of faults rose or memory
+-- was refused
 abbrev pub IsComplete : Option Job → Option Store → List ℕ → (read_failed write_failed : Type 0) → Status → Type 0
 IsComplete None store name read_failed write_failed status = Unit {0}
 IsComplete (Some job) None name read_failed write_failed status = Unit {0}
 IsComplete (Some job) (Some store) name read_failed write_failed status =
-    (p : Pipeline) → IsSomeAnd (held store name) (λ src. IsPipelineFile src p) → IsTrue (takes job p)
+    (p : Pipeline) → IsSomeAnd (held store name) (λ src. IsPipelineFile src p)
     → (read_failed → ⊥) → (write_failed → ⊥) → (status ≡ Done) ⊎ (status ≡ NoMemory)
 
 -- ---- the steps
 
--- the job isn't done, for the one reason that there is, or memory was refused
-abbrev pub Fails : Job → List ℕ → TextFault → Type 0
-Fails job src (text.Refused r) = Refuses job src r
-Fails job src text.NoMemory = Unit {0}
+-- the file is refused, for the one reason that there is, or memory was
+abbrev pub Fails : List ℕ → TextFault → Type 0
+Fails src (text.Refused r) = Refuses src r
+Fails src text.NoMemory = Unit {0}
 
 -- what making the text of a job gives
 abbrev pub MakesText : Job → List ℕ → Result (Vec ℕ) TextFault → Type 0
 MakesText job src (Ok c) = IsOutputOf job src c.items
-MakesText job src (Err fault) = Fails job src fault
-
--- what making the text of a pipeline gives: a text, or `Unbuilt` where the job doesn't take it
-abbrev pub MakesTextOf : Job → Pipeline → Result (Vec ℕ) TextFault → Type 0
-MakesTextOf job p (Ok c) = IsTrue (takes job p) × Writes job p c.items
-MakesTextOf job p (Err (text.Refused r)) = (takes job p ≡ false) × (r ≡ unbuilt)
-MakesTextOf job p (Err text.NoMemory) = Unit {0}
+MakesText job src (Err fault) = Fails src fault
 
 -- what each status says of a text that was loaded, and of what was written
 abbrev pub WritesSource : Job → List ℕ → Option (List ℕ) → Option (List ℕ) → ℕ → ℕ → Status → Type 0
 WritesSource job src out out' faults faults' Done = (c : List ℕ) × (IsOutputOf job src c × Appends out out' c)
 WritesSource job src out out' faults faults' WriteFault =
     (c : List ℕ) × (IsOutputOf job src c × AppendsPrefix out out' c × Rose faults faults')
-WritesSource job src out out' faults faults' (Refused r) = Refuses job src r × (out' ≡ out)
+WritesSource job src out out' faults faults' (Refused r) = Refuses src r × (out' ≡ out)
 WritesSource job src out out' faults faults' NoMemory = out' ≡ out
 WritesSource job src out out' faults faults' Missing = ⊥
 WritesSource job src out out' faults faults' TooLong = ⊥

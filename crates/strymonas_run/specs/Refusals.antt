@@ -15,7 +15,7 @@ use Rattle.kind_rules.specs.Checking.{check_of, IsTyped}
 use Rattle.list_denotation.specs.Terms.{Pipeline}
 use Rattle.status_lines.specs.declared.refusals.Refusal.{Refusal}
 use Rattle.status_lines.specs.declared.refusals.RefusalKind.{RefusalKind}
-use Rattle.status_lines.specs.declared.refusals.RefusalKind.TheVariants.{NotUtf8, BadChar, NumberTooLarge, Syntax, TooDeep, TooManyInputs, TooManyOps, TooManyNodes, Unknown, Twice, Mismatch, WidthMismatch, TooWide, DivisionInOpening, NotArray, Unbuilt}
+use Rattle.status_lines.specs.declared.refusals.RefusalKind.TheVariants.{NotUtf8, BadChar, NumberTooLarge, Syntax, TooDeep, TooManyInputs, TooManyOps, TooManyNodes, Unknown, Twice, Mismatch, WidthMismatch, TooWide, DivisionInOpening, NotArray}
 use Rattle.strymonas_run.specs.PipelineFile.{HasTree}
 
 -- the bytes have tokens, and these have this fault
@@ -37,8 +37,7 @@ pub record HasNoFault (src : List ℕ) : Type 0 where
   pub text : HasTree src tree
   pub typed : IsTyped tree pipeline
 
--- what is wrong with the bytes, of each kind at this place. Unbuilt is nothing that is wrong with bytes: a
--- command answers it of a pipeline.
+-- what is wrong with the bytes, of each kind at this place
 abbrev pub IsRefusedAt : List ℕ → RefusalKind → ℕ → Type 0
 IsRefusedAt src NotUtf8 at = LexesAs src (Err (lex.NotUtf8 at))
 IsRefusedAt src BadChar at = LexesAs src (Err (lex.BadChar at))
@@ -55,7 +54,6 @@ IsRefusedAt src WidthMismatch at = HasTypeFault src (types.WidthMismatch at)
 IsRefusedAt src TooWide at = HasTypeFault src (types.TooWide at)
 IsRefusedAt src DivisionInOpening at = HasTypeFault src (types.DivisionInOpening at)
 IsRefusedAt src NotArray at = HasTypeFault src (types.NotArray at)
-IsRefusedAt src Unbuilt at = ⊥
 
 abbrev pub IsRefused : List ℕ → Refusal → Type 0
 IsRefused src r = IsRefusedAt src r.kind r.at

@@ -1,8 +1,8 @@
 //! What each command does with a file.
 
-ghost use Rattle.std.specs.Prelude.{◌≡◌, ◌≤◌, length};
+ghost use Rattle.std.specs.Prelude.{◌≡◌, ◌≤◌, length, IfOk};
 ghost use Rattle.list_denotation.specs.Pipelines.{pipeline_of};
-ghost use Rattle.strymonas_run.specs.Jobs.{AnswersFile, HasCause, MakesText, MakesTextOf};
+ghost use Rattle.strymonas_run.specs.Jobs.{AnswersFile, HasCause, MakesText, Writes};
 ghost use Rattle.strymonas_run.specs.Jobs.{WritesSource};
 
 use crate::commands::Job;
@@ -15,6 +15,7 @@ use pipe_limits::MOST_BYTES;
 use status_lines::Status;
 use std::alloc::Global;
 use strm_io::{Files, LoadFault, Sink, load, put_all};
+use strm_num::NoMemory;
 
 /// Does the job for the pipeline in the named file, and writes what it gives.
 pub fn do_job<F: Files, O: Sink>(
@@ -66,15 +67,16 @@ fn text_of_source(alloc: Global, job: Job, src: &[u8]) -> Result<Vec<u8>, TextFa
     ensures { MakesText job src.now result }
 {
     let program = read_pipeline(alloc, src)?;
-    text_of_pipeline(alloc, job, &program)
+    let text = text_of_pipeline(alloc, job, &program)?;
+    Ok(text)
 }
 
-// What the job gives for a pipeline, or why there is nothing.
-fn text_of_pipeline(alloc: Global, job: Job, program: &Program) -> Result<Vec<u8>, TextFault>
-    ensures { MakesTextOf job (pipeline_of program.now) result }
+// What the job gives for a pipeline.
+fn text_of_pipeline(alloc: Global, job: Job, program: &Program) -> Result<Vec<u8>, NoMemory>
+    ensures { IfOk result (λ c. Writes job (pipeline_of program.now) c.items) }
 {
     match job {
         Job::Compile => c_text(alloc, program),
-        Job::Check => Ok(counts_text(alloc, program)?),
+        Job::Check => counts_text(alloc, program),
     }
 }

@@ -1,12 +1,9 @@
 //! Laws of the definitions. These functions do nothing: their contracts are the laws.
 
-ghost use Rattle.std.specs.Prelude.{◌≡◌, ◌≢◌, ◌≤◌, ◌↔◌, ℕ, List, Option, None, length};
+ghost use Rattle.std.specs.Prelude.{◌≡◌, ◌≤◌, ◌↔◌, ℕ, List, Option, None, length};
 ghost use Rattle.list_denotation.specs.Terms.{Pipeline};
 ghost use Rattle.pipe_limits.specs.declared.TheConstants.{MOST_BYTES};
 ghost use Rattle.status_lines.specs.declared.refusals.Refusal.{Refusal};
-ghost use Rattle.status_lines.specs.declared.refusals.RefusalKind.TheVariants.{Unbuilt};
-ghost use Rattle.strymonas_run.specs.declared.commands.Job.TheVariants.{Check};
-ghost use Rattle.strymonas_run.specs.Jobs.{IsRefusedBy};
 ghost use Rattle.strymonas_run.specs.PipelineFile.{IsPipelineFile};
 ghost use Rattle.strymonas_run.specs.Refusals.{HasRefusal};
 
@@ -45,9 +42,4 @@ pub fn each_file_has_its_refusal()
 pub fn pipelines_have_no_refusal()
     ensures { (src : List ℕ) → length src ≤ MOST_BYTES →
         HasRefusal src None ↔ ((p : Pipeline) × IsPipelineFile src p) }
-{}
-
-/// `check` refuses no file as `Unbuilt`.
-pub fn checks_are_never_unbuilt()
-    ensures { (src : List ℕ) (r : Refusal) → IsRefusedBy Check src r → r.kind ≢ Unbuilt }
 {}

@@ -5,9 +5,9 @@
 //! what they mean, on loop_emit for the loop program of a pipeline, on c_printer and count_lines for
 //! what is written, on strm_io for devices, and on status_lines for the statuses and the line of each.
 //! `run_words` carries the promise. Unless memory is refused or a device fails, `check` writes the
-//! counts of each pipeline file, and `compile` the text of a loop program of each that is built so
-//! far, which goes no further than the pipeline's lists, and as far as they do. Any other file is
-//! refused for the one reason that there is, with its offset. The laws are of the definitions alone.
+//! counts of each pipeline file, and `compile` the text of a loop program of it, which goes no further
+//! than the pipeline's lists, and as far as they do. Any other file is refused for the one reason that
+//! there is, with its offset. The laws are of the definitions alone.
 #![tactic(auto)]
 
 mod commands;
@@ -20,8 +20,8 @@ mod text_faults;
 
 pub use commands::{Job, read_words};
 pub use laws::{
-    checks_are_never_unbuilt, each_file_has_its_refusal, files_are_one_pipeline,
-    files_have_one_refusal, pipelines_have_no_refusal,
+    each_file_has_its_refusal, files_are_one_pipeline, files_have_one_refusal,
+    pipelines_have_no_refusal,
 };
 pub use running::run_words;
 pub use status_lines::{Refusal, RefusalKind, Status};

@@ -10,19 +10,23 @@ use Rattle.list_denotation.specs.Typing.{all_undivided}
 use Rattle.denotation_laws.specs.FarRows.{FarRows}
 use Rattle.stateful_core.specs.CoreTerms.{Actions, CoreTerm, Lin, Tr, Nest, Zip}
 use Rattle.stateful_core.specs.CoreRows.{core_turn, guard_value, core_rows}
-use Rattle.stateful_core.specs.CoreShapes.{actions_locals, core_scope, is_flat}
+use Rattle.stateful_core.specs.CoreShapes.{actions_locals, core_scope}
 use Rattle.stateful_core.specs.CoreWork.{core_work}
 use Rattle.stateful_core.specs.Turns.{Turn, stage_rows}
 use Rattle.stateful_core.specs.WellFormed.{is_sound_core}
 use Rattle.stateful_core.specs.WordValues.{word_values}
+use Rattle.machine_turns.specs.MachineRuns.{Runs}
+use Rattle.machine_turns.specs.StageTurns.{join_guard, join_step}
+use Rattle.act_moves.proofs.RenumberedValues.{length_values, values_append}
+use Rattle.act_moves.proofs.SoundActs.{SoundParts}
+use Rattle.machine_turns.proofs.AlikeTurns.{AlikeTurns, SameTruth, alike_rows, alike_runs}
 use Rattle.zip_linearise.specs.Laws.{Laws}
-use Rattle.zip_linearise.specs.Machines.{MachineParts, machine_core, linear_machine}
-use Rattle.zip_linearise.proofs.AlikeTurns.{AlikeTurns, SameTruth, alike_rows, alike_runs}
-use Rattle.zip_linearise.proofs.RenumberedValues.{length_values, values_append}
-use Rattle.zip_linearise.proofs.Runs.{Runs, own_runs, runs_far}
-use Rattle.zip_linearise.proofs.SoundMachines.{SoundParts, SoundStage, stage_of, machine_parts, machine_scope, parts_over}
+use Rattle.zip_linearise.specs.LinearMachine.{linear_machine}
+use Rattle.zip_linearise.specs.Machines.{MachineParts, machine_core}
+use Rattle.zip_linearise.proofs.NestRows.{row_scope, nest_rows_far, nest_rows_reached}
+use Rattle.zip_linearise.proofs.SoundMachines.{SoundStage, stage_of, machine_parts, machine_scope, parts_over, nest_of, zip_of}
 use Rattle.zip_linearise.proofs.StageMachines.{BothStates, both, stage_turns, stage_guards}
-use Rattle.zip_linearise.proofs.StageTurns.{join_guard, join_step, stage_far, join_runs, join_rows_of}
+use Rattle.zip_linearise.proofs.ZipRows.{zipped_no_further, zipped_reaches}
 
 module _ (laws : Laws) (inputs : List Input) (env : List ℕ) where
   abbrev guard_of : MachineParts → List ℕ → ℕ
@@ -39,7 +43,7 @@ module _ (laws : Laws) (inputs : List Input) (env : List ℕ) where
 
   -- ---- a stage
 
-  module _ (scope : ℕ) (of : CoreTerm) (init : List Term) (guard : Term) (acts : Actions) (item : List Term) (flat : IsTrue (is_flat of))
+  module _ (scope : ℕ) (of : CoreTerm) (init : List Term) (guard : Term) (acts : Actions) (item : List Term)
       (s : SoundStage scope of init guard acts item) (scoped : length env ≡ scope) where
     abbrev m : MachineParts
     m = linear_machine of
@@ -60,13 +64,13 @@ module _ (laws : Laws) (inputs : List Input) (env : List ℕ) where
     k = m.scope + length init + length m.item
 
     in_scope : length env ≡ m.scope
-    in_scope = scoped ∙ sym s.same_scope ∙ sym (machine_scope of flat s.below)
+    in_scope = scoped ∙ sym s.same_scope ∙ sym (machine_scope of s.below)
 
     lower : SoundParts m.scope 0 m.init m.guard m.acts m.item
-    lower = machine_parts laws of flat s.below
+    lower = machine_parts laws of s.below
 
     own : SoundParts m.scope (length m.item) init guard acts item
-    own = parts_over scope of init guard acts item flat s
+    own = parts_over scope of init guard acts item s
 
     abbrev locals : ℕ
     locals = actions_locals m.acts
@@ -90,32 +94,45 @@ module _ (laws : Laws) (inputs : List Input) (env : List ℕ) where
     stage_rows_same pulls =
         alike_rows R (guard_of n) (turn_of n) (join_guard (guard_of m) opens) (join_step (turn_of m) takes) alike_guards alike_turns
         pulls (start_of n) (start_of m, word_values init env inputs) (both_start m.init init)
-        ∙ join_rows_of (guard_of m) (turn_of m) opens takes pulls (start_of m) (word_values init env inputs)
+        ∙ laws.stage_rows_over (guard_of m) (turn_of m) opens takes pulls (start_of m) (word_values init env inputs)
 
     -- and rows that the machine below reaches become, by the stage, rows that the machine reaches in as many turns
     stage_reaches : {rows : Rows} {w : ℕ} → Runs (guard_of m) (turn_of m) rows (start_of m) w → Runs (guard_of n) (turn_of n) (stage_rows opens takes (word_values init env inputs) rows) (start_of n) w
-    stage_reaches r =
+    stage_reaches {rows} {w} r =
         alike_runs R (guard_of n) (turn_of n) (join_guard (guard_of m) opens) (join_step (turn_of m) takes) alike_guards alike_turns
-        (join_runs (guard_of m) (turn_of m) opens takes r (word_values init env inputs)) (start_of n) (both_start m.init init)
+        (laws.stage_reaches (guard_of m) (turn_of m) opens takes rows (start_of m) (word_values init env inputs) w r) (start_of n) (both_start m.init init)
 
-  -- ---- terms
+-- ---- terms
 
-  pub machine_no_further : (c : CoreTerm) → IsTrue (is_flat c) → IsTrue (is_sound_core c) → length env ≡ core_scope c → (n : ℕ) → FarRows (core_rows (machine_core (linear_machine c)) env inputs n) (core_rows c env inputs n)
-  machine_no_further (Lin scope init guard acts item) flat h q n = laws.far_itself _
-  machine_no_further (Tr scope of init guard acts item) flat h q n =
+module _ (laws : Laws) (inputs : List Input) where
+  pub machine_no_further : (env : List ℕ) (c : CoreTerm) → IsTrue (is_sound_core c) → length env ≡ core_scope c → (n : ℕ) → FarRows (core_rows (machine_core (linear_machine c)) env inputs n) (core_rows c env inputs n)
+  machine_no_further env (Lin scope init guard acts item) h q n = laws.far_itself _
+  machine_no_further env (Tr scope of init guard acts item) h q n =
       let s = stage_of scope of init guard acts item h in
-      rw (stage_rows_same scope of init guard acts item flat s q n)
-      (stage_far (guard_value guard env inputs) (core_turn acts item env inputs) (word_values init env inputs) (machine_no_further of flat s.below (q ∙ sym s.same_scope) n))
-  machine_no_further (Nest of inner) flat h q n = absurd cc
-  machine_no_further (Zip left right) flat h q n = absurd cc
+      rw (stage_rows_same laws inputs env scope of init guard acts item s q n)
+      (laws.stage_far (guard_value guard env inputs) (core_turn acts item env inputs) (word_values init env inputs) _ _ (machine_no_further env of s.below (q ∙ sym s.same_scope) n))
+  machine_no_further env (Nest of inner) h q n =
+      let s = nest_of of inner h in
+      nest_rows_far laws inputs env of inner s q n (machine_no_further env of s.first q n)
+      (λ r k. machine_no_further (env ++ r) inner s.second (row_scope laws inputs env of inner s q r k) n)
+  machine_no_further env (Zip left right) h q n =
+      let s = zip_of left right h in
+      zipped_no_further laws inputs env left right s q (core_rows left env inputs n) (core_rows right env inputs n) n
+      (machine_no_further env left s.first q n) (machine_no_further env right s.second (q ∙ sym s.second_scope) n)
 
-  machine_reaches : (c : CoreTerm) → IsTrue (is_flat c) → IsTrue (is_sound_core c) → length env ≡ core_scope c → (n : ℕ) → Runs (guard_of (linear_machine c)) (turn_of (linear_machine c)) (core_rows c env inputs n) (start_of (linear_machine c)) (core_work c env inputs n)
-  machine_reaches (Lin scope init guard acts item) flat h q n = own_runs _ _ n _
-  machine_reaches (Tr scope of init guard acts item) flat h q n =
+  machine_reaches : (env : List ℕ) (c : CoreTerm) → IsTrue (is_sound_core c) → length env ≡ core_scope c → (n : ℕ) → Runs (guard_of laws inputs env (linear_machine c)) (turn_of laws inputs env (linear_machine c)) (core_rows c env inputs n) (start_of laws inputs env (linear_machine c)) (core_work c env inputs n)
+  machine_reaches env (Lin scope init guard acts item) h q n = laws.machine_reaches _ _ n _
+  machine_reaches env (Tr scope of init guard acts item) h q n =
       let s = stage_of scope of init guard acts item h in
-      stage_reaches scope of init guard acts item flat s q (machine_reaches of flat s.below (q ∙ sym s.same_scope) n)
-  machine_reaches (Nest of inner) flat h q n = absurd cc
-  machine_reaches (Zip left right) flat h q n = absurd cc
+      stage_reaches laws inputs env scope of init guard acts item s q (machine_reaches env of s.below (q ∙ sym s.same_scope) n)
+  machine_reaches env (Nest of inner) h q n =
+      let s = nest_of of inner h in
+      nest_rows_reached laws inputs env of inner s q n (machine_reaches env of s.first q n)
+      (λ r k. machine_reaches (env ++ r) inner s.second (row_scope laws inputs env of inner s q r k) n)
+  machine_reaches env (Zip left right) h q n =
+      let s = zip_of left right h in
+      zipped_reaches laws inputs env left right s q (core_rows left env inputs n) (core_rows right env inputs n) _ _
+      (machine_reaches env left s.first q n) (machine_reaches env right s.second (q ∙ sym s.second_scope) n)
 
-  pub machine_as_far : (c : CoreTerm) → IsTrue (is_flat c) → IsTrue (is_sound_core c) → length env ≡ core_scope c → (n : ℕ) → FarRows (core_rows c env inputs n) (core_rows (machine_core (linear_machine c)) env inputs (core_work c env inputs n))
-  machine_as_far c flat h q n = runs_far _ _ (machine_reaches c flat h q n)
+  pub machine_as_far : (env : List ℕ) (c : CoreTerm) → IsTrue (is_sound_core c) → length env ≡ core_scope c → (n : ℕ) → FarRows (core_rows c env inputs n) (core_rows (machine_core (linear_machine c)) env inputs (core_work c env inputs n))
+  machine_as_far env c h q n = laws.machine_far _ _ _ _ _ (machine_reaches env c h q n)

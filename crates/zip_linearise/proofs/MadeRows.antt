@@ -1,43 +1,24 @@
--- Rows that the code makes one by one.
-use Rattle.std.proofs.Common.{◌≡◌, ℕ, suc, ◌+◌, ◌≤◌, List, [], ◌∷◌, ◌++◌, length, drop, Some, refl, sym, ap, ◌∙◌, subst, append-nil}
-use Rattle.std.specs.Prelude.{slice_get}
-use Rattle.std.proofs.lemmas.List.{drop_all}
-use Rattle.strm_num.proofs.Lists.{drop_at}
+-- Rows that the code makes one by one: copies of others, and zeros.
+use Rattle.std.proofs.Common.{◌≡◌, ℕ, suc, ◌+◌, ◌-◌, ◌<◌, ◌≤◌, List, [], ◌∷◌, ◌++◌, sym, ap, ◌∙◌, append-nil, arith}
 use Rattle.list_denotation.specs.declared.expr.Expr.{Expr}
-use Rattle.list_denotation.specs.Copies.{term_of, terms_of}
-use Rattle.list_denotation.specs.Terms.{Term}
-use Rattle.zip_linearise.specs.Renumbering.{renumber, renumber_row}
-use Rattle.zip_linearise.specs.WordRoom.{ReadsBelow, RowReadsBelow}
+use Rattle.list_denotation.specs.declared.expr.Expr.TheVariants as expr
+use Rattle.list_denotation.specs.Copies.{terms_of}
+use Rattle.list_denotation.specs.Terms.{Lit}
+use Rattle.stateful_core.proofs.CopiedRows.{terms_push, copy_step, copy_end}
+use Rattle.stateful_core.proofs.AppendedActs.{terms_length}
+use Rattle.zip_linearise.specs.HeldRows.{zeros}
 
-terms_push : (row : List Expr) (e : Expr) (rest : List Term) → terms_of (row ++ e ∷ []) ++ rest ≡ terms_of row ++ term_of e ∷ rest
-terms_push [] e rest = refl
-terms_push (x ∷ row) e rest = ap (λ z. term_of x ∷ z) (terms_push row e rest)
+pub ruleset width_steps = (terms_length)
 
-pub terms_length : (es : List Expr) → length (terms_of es) ≡ length es
-terms_length [] = refl
-terms_length (e ∷ es) = ap suc (terms_length es)
+pub ruleset append_steps = (copy_step, copy_end)
 
-pub row_step : (f : ℕ → ℕ) (made es : List Expr) (i : ℕ) (e c : Expr) → slice_get es i ≡ Some e → term_of c ≡ renumber f (term_of e) → terms_of (made ++ c ∷ []) ++ renumber_row f (terms_of (drop (i + 1) es)) ≡ terms_of made ++ renumber_row f (terms_of (drop i es))
-row_step f made es i e c h q =
-    terms_push made c (renumber_row f (terms_of (drop (i + 1) es))) ∙ ap (λ t. terms_of made ++ t ∷ renumber_row f (terms_of (drop (i + 1) es))) q
-    ∙ sym (ap (λ l. terms_of made ++ renumber_row f (terms_of l)) (drop_at es i e h))
+zeros_left : (n i : ℕ) → i < n → zeros (n - i) ≡ Lit 0 ∷ zeros (n - (i + 1))
+zeros_left n i h = ap zeros (let q : n - i ≡ suc (n - (i + 1)) = omega arith in q)
 
-pub row_end : (f : ℕ → ℕ) (made es : List Expr) (i : ℕ) → length es ≤ i → terms_of made ++ renumber_row f (terms_of (drop i es)) ≡ terms_of made
-row_end f made es i h = ap (λ l. terms_of made ++ renumber_row f (terms_of l)) (drop_all i es h) ∙ append-nil (terms_of made)
+pub zero_step : (made : List Expr) (n i : ℕ) → i < n → terms_of (made ++ expr.Lit 0 ∷ []) ++ zeros (n - (i + 1)) ≡ terms_of made ++ zeros (n - i)
+zero_step made n i h = terms_push made (expr.Lit 0) (zeros (n - (i + 1))) ∙ sym (ap (λ z. terms_of made ++ z) (zeros_left n i h))
 
-pub row_below : (n : ℕ) (es : List Expr) (i : ℕ) (e : Expr) → slice_get es i ≡ Some e → RowReadsBelow n (terms_of (drop i es)) → ReadsBelow n (term_of e) × RowReadsBelow n (terms_of (drop (i + 1) es))
-row_below n es i e h b = subst (λ z. RowReadsBelow n (terms_of z)) (drop_at es i e h) b
+pub zero_end : (made : List Expr) (n i : ℕ) → n ≤ i → terms_of made ++ zeros (n - i) ≡ terms_of made
+zero_end made n i h = ap (λ k. terms_of made ++ zeros k) (let q : n - i ≡ 0 = omega arith in q) ∙ append-nil (terms_of made)
 
-pub ruleset row_steps = (row_step, row_end, row_below)
-
--- ---- a row behind another
-
-pub append_step : (made es : List Expr) (i : ℕ) (e c : Expr) → slice_get es i ≡ Some e → term_of c ≡ term_of e → terms_of (made ++ c ∷ []) ++ terms_of (drop (i + 1) es) ≡ terms_of made ++ terms_of (drop i es)
-append_step made es i e c h q =
-    terms_push made c (terms_of (drop (i + 1) es)) ∙ ap (λ t. terms_of made ++ t ∷ terms_of (drop (i + 1) es)) q
-    ∙ sym (ap (λ l. terms_of made ++ terms_of l) (drop_at es i e h))
-
-pub append_end : (made es : List Expr) (i : ℕ) → length es ≤ i → terms_of made ++ terms_of (drop i es) ≡ terms_of made
-append_end made es i h = ap (λ l. terms_of made ++ terms_of l) (drop_all i es h) ∙ append-nil (terms_of made)
-
-pub ruleset append_steps = (append_step, append_end)
+pub ruleset zero_steps = (zero_step, zero_end)

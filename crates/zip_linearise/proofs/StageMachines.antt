@@ -14,18 +14,18 @@ use Rattle.stateful_core.specs.WordValues.{or_zero, word_value, word_values}
 use Rattle.stateful_core.specs.Actions.{ActResult, Continue, Skip, Halt, Break, then_run, run_acts}
 use Rattle.stateful_core.specs.StreamCores.{let_all}
 use Rattle.stateful_core.specs.WellFormed.{are_sound_actions}
+use Rattle.machine_turns.specs.StageTurns.{with_state, join_turn, join_guard}
+use Rattle.act_moves.specs.Renumbering.{renumber, renumber_row, move_actions}
+use Rattle.act_moves.proofs.ActLengths.{run_join, KeepsState, acts_keep, HasLocals, has_locals_at, acts_add}
+use Rattle.act_moves.proofs.MovedActs.{run_moved, placed}
+use Rattle.act_moves.proofs.RenumberedValues.{value_renumbered, values_renumbered, room_at}
+use Rattle.machine_turns.proofs.AlikeTurns.{AlikeTurns, both_give, both_skip, both_stop, both_break, SameTruth}
 use Rattle.zip_linearise.specs.Laws.{Laws}
 use Rattle.zip_linearise.specs.Machines.{MachineParts, is_always, join_guards, machine_word, guard_word, stage_word, stage_acts, stage_machine}
-use Rattle.zip_linearise.specs.Renumbering.{renumber, renumber_row, move_actions}
-use Rattle.zip_linearise.proofs.ActLengths.{run_join, KeepsState, acts_keep, HasLocals, has_locals_at, acts_add}
-use Rattle.zip_linearise.proofs.AlikeTurns.{AlikeTurns, both_give, both_skip, both_stop, both_break, SameTruth}
-use Rattle.zip_linearise.proofs.MovedActs.{run_moved, placed}
-use Rattle.zip_linearise.proofs.RenumberedValues.{value_renumbered, values_renumbered, room_at}
-use Rattle.zip_linearise.proofs.StageTurns.{with_state, join_turn, join_guard}
 
 -- ---- guards
 
-always_true : (g : Term) → is_always g ≡ true → g ≡ Truth true
+pub always_true : (g : Term) → is_always g ≡ true → g ≡ Truth true
 always_true (Truth true) h = refl
 always_true (Truth false) h = absurd cc
 always_true (Lit w) h = absurd cc
@@ -43,7 +43,7 @@ same_where_true : (w : ℕ) → SameTruth w (choice w 0 1)
 same_where_true zero = refl
 same_where_true (suc w) = refl
 
-same_twice : (w : ℕ) → SameTruth (choice w 0 1) w
+pub same_twice : (w : ℕ) → SameTruth (choice w 0 1) w
 same_twice zero = refl
 same_twice (suc w) = refl
 

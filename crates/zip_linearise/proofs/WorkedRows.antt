@@ -1,18 +1,21 @@
 -- The machines of small terms, and what they give.
-use Rattle.std.specs.Prelude.{◌≡◌, refl, ℕ, List, [], ◌∷◌, true}
-use Rattle.list_denotation.specs.declared.expr.BinOp.TheVariants as sign
+use Rattle.std.specs.Prelude.{◌≡◌, refl, ℕ, List, [], ◌∷◌, true, false}
 use Rattle.list_denotation.specs.declared.input.Input.{Input}
 use Rattle.list_denotation.specs.declared.input.Input.TheVariants as input
 use Rattle.list_denotation.specs.Rows.{Rows, Ends, Row, End, Cut, Broken}
-use Rattle.list_denotation.specs.Terms.{Lit, Var, Len, Bin, And, Pipe, Array, Map, Filter, Take, Drop, TakeWhile, Scan}
+use Rattle.list_denotation.specs.Terms.{Lit, Truth, Var, Len, Bin, And, Or, Pipe, Array, Range, Map, Filter, Take, Drop, TakeWhile, Scan, FlatMap}
 use Rattle.list_denotation.specs.Values.{Trap}
-use Rattle.stateful_core.specs.CoreTerms.{CoreTerm, Let, Read, Update, Nil, Cons}
+use Rattle.stateful_core.specs.CoreTerms.{CoreTerm, Let, Read, KeepIf, Update, When, Nil, Cons}
 use Rattle.stateful_core.specs.CoreRows.{core_rows}
 use Rattle.stateful_core.specs.CoreWork.{core_work}
 use Rattle.stateful_core.specs.MostWords.{most_words}
-use Rattle.stateful_core.specs.StreamCores.{always, rows_asked, one_more, one_less, core_at}
+use Rattle.stateful_core.specs.StreamCores.{always, rows_asked, range_start, one_more, one_less, core_at}
 use Rattle.stateful_core.specs.WellFormed.{is_well_formed}
-use Rattle.zip_linearise.specs.Machines.{machine_from, machine_core, join_guards, linear_machine}
+use Rattle.list_denotation.specs.declared.expr.BinOp.TheVariants as sign
+use Rattle.zip_linearise.specs.HeldRows.{flag_or}
+use Rattle.zip_linearise.specs.LinearMachine.{linear_machine}
+use Rattle.zip_linearise.specs.Machines.{machine_from, machine_core, join_guards}
+use Rattle.zip_linearise.specs.NestMachine.{guarded_acts}
 
 -- an array input of these items
 abbrev items : List ℕ → List Input
@@ -84,8 +87,51 @@ small_sums_end = refl
 small_sums_work : core_work (core_at 0 small_sums) [] (items (7 ∷ 2 ∷ 3 ∷ 4 ∷ 5 ∷ [])) 4 ≡ 5
 small_sums_work = refl
 
+-- ---- array a | flatMap x -> range(0, x)
+
+abbrev counts : Pipe
+counts = FlatMap (Array 0) (Range (Lit 0) (Var 0))
+
+-- The state is the flag, the row that is held, the index, and the next number of the range. The local word is the item that is
+-- read, or the number.
+counts_parts :
+    linear_machine (core_at 0 counts)
+    ≡ machine_from 0 (Lit 0 ∷ Lit 0 ∷ Lit 0 ∷ Lit 0 ∷ []) (Or (Var 0) (Bin sign.Ne (Var 2) (Len 0)))
+    (Cons (When (Var 0) Nil
+    (Cons (Read 0 (Var 2)) (Cons (Update 2 (one_more 2 ∷ [])) (Cons (Update 1 (Var 4 ∷ [])) (Cons (Update 3 (range_start (Lit 0) (Var 1) ∷ []))
+    (Cons (Update 0 (Lit 1 ∷ [])) (Cons (KeepIf (Truth false)) Nil)))))))
+    (Cons (When (Bin sign.Ne (Var 3) (Var 1)) Nil (Cons (Update 0 (Lit 0 ∷ [])) (Cons (KeepIf (Truth false)) Nil)))
+    (Cons (Let (Var 3)) (Cons (Update 3 (one_more 3 ∷ [])) Nil)))) (Var 4 ∷ [])
+counts_parts = refl
+
+-- each item opens a range in a turn, and each range is closed in a turn
+counts_end : rows_of counts (2 ∷ 0 ∷ 1 ∷ []) 9 ≡ one 0 (one 1 (one 0 (Ends End)))
+counts_end = refl
+
+-- while a range is open the machine goes on, though no item is left
+counts_are_cut : rows_of counts (2 ∷ 0 ∷ 1 ∷ []) 8 ≡ one 0 (one 1 (one 0 (Ends Cut)))
+counts_are_cut = refl
+
+-- a range that ends at once gives nothing between its two turns
+empty_counts_end : rows_of counts (0 ∷ []) 2 ≡ Ends End
+empty_counts_end = refl
+
+-- the machine stops within the term's work: that of the three items, and of each range, and 1 for each of these four
+counts_work : core_work (core_at 0 counts) [] (items (2 ∷ 0 ∷ 1 ∷ [])) 3 ≡ 10
+counts_work = refl
+
+counts_are_well_formed : is_well_formed (machine_at counts) ≡ true
+counts_are_well_formed = refl
+
 -- ---- guards
 
 -- a guard that is always true adds nothing to another
 always_adds_nothing : (join_guards always (Var 0) ∷ join_guards (Var 0) always ∷ join_guards always always ∷ []) ≡ Var 0 ∷ Var 0 ∷ always ∷ []
 always_adds_nothing = refl
+
+-- nor has it a flag before it, or an act that closes
+always_needs_no_flag : flag_or (Var 0) always ≡ always
+always_needs_no_flag = refl
+
+always_closes_nothing : guarded_acts always Nil ≡ Nil
+always_closes_nothing = refl

@@ -1,6 +1,8 @@
-pub mod Renumbering
 pub mod Machines
+pub mod HeldRows
+pub mod NestMachine
+pub mod ZipMachine
+pub mod LinearMachine
 pub mod MachineCopies
-pub mod WordRoom
 pub mod MachinePromise
 pub mod Laws

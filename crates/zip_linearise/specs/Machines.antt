@@ -1,10 +1,9 @@
--- The machine of a core term: one Lin with its rows.
+-- Machines, and the machine of a stage over another one.
 use Rattle.std.specs.Prelude.{ℕ, ◌+◌, Bool, true, false, List, ◌++◌, length, if◌then◌else◌}
 use Rattle.list_denotation.specs.Terms.{Term, Truth, And}
-use Rattle.stateful_core.specs.CoreTerms.{StopUnless, Actions, join, CoreTerm, Lin, Tr, Nest, Zip}
-use Rattle.stateful_core.specs.CoreShapes.{actions_locals}
+use Rattle.stateful_core.specs.CoreTerms.{StopUnless, Actions, join, CoreTerm, Lin}
 use Rattle.stateful_core.specs.StreamCores.{let_all}
-use Rattle.zip_linearise.specs.Renumbering.{with_room, renumber, renumber_row, move_actions}
+use Rattle.act_moves.specs.Renumbering.{with_room, renumber, renumber_row, move_actions}
 
 -- what a Lin is made of
 pub record MachineParts : Type 0 where
@@ -62,13 +61,3 @@ stage_machine locals m init guard acts item = record {
   acts = stage_acts locals m init acts;
   item = renumber_row (stage_word locals m init) item;
 }
-
--- ---- terms
-
--- A Lin is its own machine. A Nest and a Zip have none yet: what stands for it here is the machine of a part.
-abbrev pub linear_machine : CoreTerm → MachineParts
-linear_machine (Lin scope init guard acts item) = machine_from scope init guard acts item
-linear_machine (Tr scope of init guard acts item) =
-    stage_machine (actions_locals (linear_machine of).acts) (linear_machine of) init guard acts item
-linear_machine (Nest of inner) = linear_machine of
-linear_machine (Zip left right) = linear_machine left

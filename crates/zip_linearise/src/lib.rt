@@ -1,18 +1,25 @@
 //! Machines of core terms: one loop for what may be many.
 //!
-//! It depends on stateful_core, whose core terms it takes, on denotation_laws and on
-//! list_denotation. A machine is the content of one `Lin` that may skip. `specs/Machines` is the
-//! machine of a term, on plain copies: a `Lin` is its own, and a `Tr` over a machine runs the acts
-//! of both in one turn, the words of one renumbered so that those of the other have room.
-//! `linearise` carries the promise, `specs/MachinePromise`: the rows of the machine and those of the
-//! term are as far as one another, in as many steps as the bound, and as the term's work. It takes
-//! terms for which `is_flat` holds.
+//! It depends on stateful_core, whose core terms it takes, on act_moves, expressions and acts whose
+//! words have other numbers, on machine_turns, the laws of machines that are made of machines, and on
+//! denotation_laws and list_denotation. A machine is the content of one `Lin` that may skip.
+//! `specs/LinearMachine` is the machine of a term, on plain copies: a `Lin` is its own; a `Tr` over a
+//! machine runs the acts of both in one turn (`specs/Machines`); the machine of a `Nest` or a `Zip`
+//! takes turns of either machine, and holds the row of the first one while the other is due
+//! (`specs/HeldRows`, `specs/NestMachine`, `specs/ZipMachine`). The words of each are renumbered so
+//! that those of the other have room. `linearise` carries the promise, `specs/MachinePromise`: the
+//! rows of the machine and those of the term are as far as one another, in as many steps as the
+//! bound, and as the term's work.
 #![tactic(auto)]
 
+mod guards;
+mod holding;
 mod linearising;
 mod machine;
-mod renumbering;
+mod nests;
+mod rows;
 mod stages;
+mod zips;
 
 pub use linearising::linearise;
 pub use machine::Machine;

@@ -3,31 +3,44 @@
 ghost use Rattle.std.specs.Prelude.{◌≡◌, ◌+◌, ◌<◌, ◌^◌, IfOk, IsTrue};
 ghost use Rattle.list_denotation.specs.Copies.{term_of, terms_of};
 ghost use Rattle.stateful_core.specs.CoreCopies.{actions_of, core_term_of};
-ghost use Rattle.stateful_core.specs.CoreShapes.{core_scope, is_flat};
+ghost use Rattle.stateful_core.specs.CoreShapes.{core_scope};
 ghost use Rattle.stateful_core.specs.MostWords.{added_words};
 ghost use Rattle.stateful_core.specs.WellFormed.{is_sound_core, is_well_formed};
+ghost use Rattle.act_moves.specs.WordRoom.{StayBelow};
 ghost use Rattle.zip_linearise.specs.Laws.{Laws};
 ghost use Rattle.zip_linearise.specs.MachineCopies.{machine_of};
 ghost use Rattle.zip_linearise.specs.MachinePromise.{IsMachineOf};
-ghost use Rattle.zip_linearise.specs.Machines.{machine_core, machine_from, linear_machine};
-ghost use Rattle.zip_linearise.specs.WordRoom.{StayBelow};
+ghost use Rattle.zip_linearise.specs.LinearMachine.{linear_machine};
+ghost use Rattle.zip_linearise.specs.Machines.{machine_core, machine_from};
 
-use crate::machine::Machine;
-use crate::renumbering::{Room, push_moved};
-use crate::stages::{boxed_machine, stage_machine};
+use crate::machine::{Machine, boxed_machine};
+use crate::nests::nest_machine;
+use crate::stages::stage_machine;
+use crate::zips::zip_machine;
+use act_moves::{Halt, Room, push_moved};
 use denotation_laws::{
-    expressions_read_bound_words_alone, far_rows_is_an_order, undivided_expressions_have_values,
+    expressions_read_bound_words_alone, far_rows_is_an_order, stages_keep_far_rows,
+    undivided_expressions_have_values,
 };
 use list_denotation::{Expr, Exprs};
+use machine_turns::{
+    inner_machines_run_within_outer_ones, machines_reach_their_rows, machines_run_side_by_side,
+    stages_run_over_machines,
+};
 use stateful_core::{Acts, Core, copies, copy};
 use std::alloc::Global;
 use strm_num::{List, NoMemory};
 
-// What denotation_laws promises of its definitions.
+// What denotation_laws and machine_turns promise of their definitions.
 fn laws_below()
     ensures { Laws }
 {
     far_rows_is_an_order();
+    stages_keep_far_rows();
+    machines_reach_their_rows();
+    stages_run_over_machines();
+    inner_machines_run_within_outer_ones();
+    machines_run_side_by_side();
     expressions_read_bound_words_alone();
     undivided_expressions_have_values();
 }
@@ -56,16 +69,16 @@ fn lin_machine(
     let guard = copy(alloc, guard)?;
     let item = copies(alloc, item)?;
     let mut made = List::new(alloc);
-    push_moved(alloc, acts.as_slice(), no_room, 0, &mut made)?;
+    push_moved(alloc, acts.as_slice(), no_room, 0, Halt::Stop, &mut made)?;
     boxed_machine(alloc, scope, init, guard, made, item)
 }
 
 fn machine_at(alloc: Global, c: &Core) -> Result<Box<Machine>, NoMemory>
-    requires flat { IsTrue (is_flat (core_term_of c.now)) }
     requires sound { IsTrue (is_sound_core (core_term_of c.now)) }
     requires room { core_scope (core_term_of c.now) + added_words (core_term_of c.now) < 2 ^ 32 }
     ensures { IfOk result (λ made. machine_of made.value ≡ linear_machine (core_term_of c.now)) }
 {
+    laws_below();
     match c {
         Core::Lin {
             scope,
@@ -82,22 +95,29 @@ fn machine_at(alloc: Global, c: &Core) -> Result<Box<Machine>, NoMemory>
             item,
             ..
         } => {
-            laws_below();
             let below = machine_at(alloc, of)?;
             stage_machine(alloc, &below, init, guard, acts, item)
         }
-        Core::Nest { .. } | Core::Zip { .. } => unreachable!(),
+        Core::Nest { of, inner } => {
+            let outer = machine_at(alloc, of)?;
+            let inner = machine_at(alloc, inner)?;
+            nest_machine(alloc, &outer, &inner)
+        }
+        Core::Zip { left, right } => {
+            let left = machine_at(alloc, left)?;
+            let right = machine_at(alloc, right)?;
+            zip_machine(alloc, &left, &right)
+        }
     }
 }
 
-/// The machine of a core term in which no Nest and no Zip stands. One step of a machine is one turn
+/// The machine of a core term. One step of a machine is one turn
 /// of the Lin with its parts. It is well formed, stands in the scope of the term, has rows as wide,
 /// names no other input, and has at most as many words. At every bound n, what it gives in n steps
 /// is as far as the rows of the term, and these are as far as what it gives in as many steps as the
 /// term's work. The one error is `NoMemory`.
 pub fn linearise(alloc: Global, c: &Core) -> Result<Machine, NoMemory>
-    requires well_formed { IsTrue (is_well_formed (core_term_of c.now)) }
-    requires flat { IsTrue (is_flat (core_term_of c.now)) }
+    requires { IsTrue (is_well_formed (core_term_of c.now)) }
     ensures { IfOk result (λ m. IsMachineOf (core_term_of c.now) (machine_core (machine_of m))) }
 {
     laws_below();

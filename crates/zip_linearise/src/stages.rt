@@ -8,28 +8,19 @@ ghost use Rattle.stateful_core.specs.CoreTerms.{StopUnless, join};
 ghost use Rattle.stateful_core.specs.MostWords.{added_words, parts_words};
 ghost use Rattle.stateful_core.specs.StreamCores.{let_all};
 ghost use Rattle.stateful_core.specs.WellFormed.{are_sound_parts, is_sound_core};
+ghost use Rattle.act_moves.specs.Renumbering.{renumber_row, move_actions};
+ghost use Rattle.act_moves.specs.WordRoom.{number_in, most_in, RowReadsBelow, StayBelow};
 ghost use Rattle.zip_linearise.specs.MachineCopies.{machine_of};
-ghost use Rattle.zip_linearise.specs.Machines.{is_always, join_guards, machine_core, machine_from};
-ghost use Rattle.zip_linearise.specs.Machines.{stage_machine};
-ghost use Rattle.zip_linearise.specs.Renumbering.{renumber_row, move_actions};
-ghost use Rattle.zip_linearise.specs.WordRoom.{number_in, most_in};
-ghost use Rattle.zip_linearise.specs.WordRoom.{RowReadsBelow, StayBelow};
+ghost use Rattle.zip_linearise.specs.Machines.{join_guards, machine_core, stage_machine};
 
-use crate::machine::Machine;
-use crate::renumbering::{Room, push_moved, renumber, renumber_row};
+use crate::guards::join_guards;
+use crate::machine::{Machine, boxed_machine};
+use crate::rows::{both_rows, width};
+use act_moves::{Halt, Room, push_moved, renumber, renumber_row};
 use list_denotation::{Expr, Exprs};
-use stateful_core::{Act, Acts, boxed, copies, copy, push_lets};
+use stateful_core::{Act, Acts, copies, copy, push_lets};
 use std::alloc::Global;
 use strm_num::{List, NoMemory};
-
-/// The words of a row.
-#[tactic(auto, using(crate::proofs::MadeRows::terms_length))]
-fn width(es: &Exprs) -> u32
-    requires { length (terms_of es.now) < 2 ^ 32 }
-    ensures { result ≡ length (terms_of es.now) }
-{
-    es.len() as u32
-}
 
 /// Whether an act adds a local word.
 fn adds_local(act: &Act) -> bool
@@ -39,7 +30,7 @@ fn adds_local(act: &Act) -> bool
 }
 
 /// How many local words acts add.
-#[tactic(auto, using(crate::proofs::MadeActs::local_steps))]
+#[tactic(auto, using(crate::proofs::MachineActs::local_steps))]
 fn locals(acts: &Acts) -> u32
     requires { actions_locals (actions_of acts.now) < 2 ^ 32 }
     ensures { result ≡ actions_locals (actions_of acts.now) }
@@ -51,38 +42,6 @@ fn locals(acts: &Acts) -> u32
         }
     }
     count
-}
-
-/// A row and then another.
-#[tactic(auto, using(crate::proofs::MadeRows::append_steps))]
-fn both_rows(alloc: Global, first: &Exprs, second: &Exprs) -> Result<Exprs, NoMemory>
-    ensures { IfOk result (λ made. terms_of made ≡ terms_of first.now ++ terms_of second.now) }
-{
-    let mut made = copies(alloc, first)?;
-    for i in 0..second.len() {
-        made.push(Box::into_inner(copy(alloc, second.get(i))?))?;
-    }
-    Ok(made)
-}
-
-fn is_always(e: &Expr) -> bool
-    ensures { result ≡ is_always (term_of e.now) }
-{
-    matches!(e, Expr::Truth(true))
-}
-
-/// A guard that is true where both are.
-fn join_guards(alloc: Global, g: Box<Expr>, h: Box<Expr>) -> Result<Box<Expr>, NoMemory>
-    ensures { IfOk result (λ made. term_of made.value
-        ≡ join_guards (term_of g.value) (term_of h.value)) }
-{
-    if is_always(&g) {
-        return Ok(h);
-    }
-    if is_always(&h) {
-        return Ok(g);
-    }
-    boxed(alloc, Expr::And(g, h))
 }
 
 /// The acts of a machine, a local word for each word of its row, and the acts of a stage, whose state
@@ -105,36 +64,12 @@ fn stage_acts(
 {
     let row = renumber_row(alloc, &m.item, of_machine)?;
     let mut made = List::new(alloc);
-    push_moved(alloc, m.acts.as_slice(), of_machine, 0, &mut made)?;
+    let lower = m.acts.as_slice();
+    push_moved(alloc, lower, of_machine, 0, Halt::Stop, &mut made)?;
     push_lets(alloc, &row, &mut made)?;
-    push_moved(alloc, acts.as_slice(), of_stage, behind, &mut made)?;
+    let own = acts.as_slice();
+    push_moved(alloc, own, of_stage, behind, Halt::Stop, &mut made)?;
     Ok(made)
-}
-
-/// The machine of these parts.
-pub fn boxed_machine(
-    alloc: Global,
-    scope: u32,
-    init: Exprs,
-    guard: Box<Expr>,
-    acts: Acts,
-    item: Exprs,
-) -> Result<Box<Machine>, NoMemory>
-    ensures { IfOk result (λ made. machine_of made.value
-        ≡ machine_from scope (terms_of init) (term_of guard.value) (actions_of acts)
-        (terms_of item)) }
-{
-    let guard = Box::into_inner(guard);
-    Ok(Box::new(
-        alloc,
-        Machine {
-            scope,
-            init,
-            guard,
-            acts,
-            item,
-        },
-    )?)
 }
 
 /// The machine of a stage with these parts over a machine. The one error is `NoMemory`.

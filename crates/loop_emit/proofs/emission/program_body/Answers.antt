@@ -8,13 +8,13 @@ pub machine_temps-temps-requires : goal.machine_temps-temps-requires
 machine_temps-temps-requires c =
     let p = c.args.p.now in
     let m = c.in_ok-machine.machine in
-    few_temps c.laws_below.ensures p (core_term_of c.args.c.now) c.requires.core m.scope (terms_of m.init) (term_of m.guard) (actions_of m.acts) (terms_of m.item) c.in_ok-machine.ensures p.typed p.words
+    few_temps c.laws_below.ensures p (core_term_of c.args.c.now) c.requires m.scope (terms_of m.init) (term_of m.guard) (actions_of m.acts) (terms_of m.item) c.in_ok-machine.ensures p.typed p.words
 
 pub statements-requires : goal.statements-requires
 statements-requires c =
     let p = c.args.p.now in
     let m = c.in_ok-machine.machine in
-    room c.laws_below.ensures p (core_term_of c.args.c.now) c.requires.core m.scope (terms_of m.init) (term_of m.guard) (actions_of m.acts) (terms_of m.item) c.in_ok-machine.ensures p.typed p.words
+    room c.laws_below.ensures p (core_term_of c.args.c.now) c.requires m.scope (terms_of m.init) (term_of m.guard) (actions_of m.acts) (terms_of m.item) c.in_ok-machine.ensures p.typed p.words
     c.machine_temps-temps.result (actions_of c.push_lets.new.acts) c.machine_temps-temps.ensures c.in_ok-push_lets.ensures
 
 pub returns : goal.returns
@@ -25,13 +25,13 @@ returns c =
       well_formed =
           IfOk-weaker c.statements.result _ _
           (λ it is.
-          well_formed c.laws_below.ensures p (core_term_of c.args.c.now) c.requires.core m.scope (terms_of m.init) (term_of m.guard) (actions_of m.acts) (terms_of m.item) c.in_ok-machine.ensures p.typed p.words
+          well_formed c.laws_below.ensures p (core_term_of c.args.c.now) c.requires m.scope (terms_of m.init) (term_of m.guard) (actions_of m.acts) (terms_of m.item) c.in_ok-machine.ensures p.typed p.words
           c.machine_temps-temps.result (actions_of c.push_lets.new.acts) c.machine_temps-temps.ensures c.in_ok-push_lets.ensures it.1 it.0 is)
           c.statements.ensures;
       emitted =
           IfOk-weaker c.statements.result _ _
           (λ it is.
-          is_emitted c.laws_below.ensures p (core_term_of c.args.c.now) c.requires.core m.scope (terms_of m.init) (term_of m.guard) (actions_of m.acts) (terms_of m.item) c.in_ok-machine.ensures p.typed p.words
+          is_emitted c.laws_below.ensures p (core_term_of c.args.c.now) c.requires m.scope (terms_of m.init) (term_of m.guard) (actions_of m.acts) (terms_of m.item) c.in_ok-machine.ensures p.typed p.words
           c.machine_temps-temps.result (actions_of c.push_lets.new.acts) c.machine_temps-temps.ensures c.in_ok-push_lets.ensures it.1 it.0 is)
           c.statements.ensures;
     }

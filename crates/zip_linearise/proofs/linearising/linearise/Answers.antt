@@ -10,4 +10,4 @@ pub returns : goal.returns
 returns c =
     let t = core_term_of c.args.c.now in
     subst (λ (m : MachineParts). IsMachineOf t (machine_core m)) (sym (ap machine_of c.into_inner.ensures ∙ c.in_ok-machine_at.ensures))
-    (machine_kept c.laws_below.ensures t c.requires.flat c.requires.well_formed)
+    (machine_kept c.laws_below.ensures t c.requires)

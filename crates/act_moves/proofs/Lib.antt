@@ -1,0 +1,11 @@
+pub mod RenumberedValues
+pub mod RenumberedLeaves
+pub mod ActLengths
+pub mod MovedActs
+pub mod SoundActs
+pub mod WordsBelow
+pub mod CopiedActs
+pub mod MovedTemps
+pub mod MovedWords
+pub mod MadeRows
+pub mod MadeActs

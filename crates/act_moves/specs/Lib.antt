@@ -1,0 +1,4 @@
+pub mod Renumbering
+pub mod WordRoom
+pub mod Flags
+pub mod Halts

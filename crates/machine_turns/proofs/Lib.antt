@@ -1,0 +1,5 @@
+pub mod MachineRuns
+pub mod StageTurns
+pub mod NestTurns
+pub mod ZipTurns
+pub mod AlikeTurns

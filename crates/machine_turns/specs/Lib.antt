@@ -1,0 +1,4 @@
+pub mod MachineRuns
+pub mod StageTurns
+pub mod NestTurns
+pub mod ZipTurns
