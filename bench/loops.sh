@@ -9,8 +9,8 @@
 # loop is compiled at -O2 and put at three code offsets, and the least time of all its runs counts, of 11
 # rounds. Rust is compiled at -O, so its column compares compilers too, and is '-' where there is no rustc.
 #
-# Single figures within a tenth are noise. A pipeline that `compile` doesn't take yet is left out, with a
-# line that says so. The script ends with 1 where the results of a loop differ.
+# Single figures within a tenth are noise. The script ends with 1 where a pipeline isn't compiled, or where the
+# results of a loop differ.
 set -eu
 cd "$(dirname "$0")/.."
 . examples/program.sh
@@ -21,26 +21,15 @@ offsets='0 1 2'
 names='sum sum_of_squares even_squares maps filters filter_of_scan take_while dot_product
   cart flat_map_take flat_map_after_zip zip_after_flat_map zip_of_flat_maps'
 
-# the C texts, and the list of those loops that have one
-built=()
+# the C texts, and the list of the loops
 : >"$work/list.h"
 for name in $names; do
-  status=0
-  "$program" compile "$loops/$name.strm" >"$work/$name.c" 2>"$work/err" || status=$?
-  if [ "$status" = 0 ]; then
-    echo "LOOP($name)" >>"$work/list.h"
-    built+=("$name")
-  elif grep -q Unbuilt "$work/err"; then
-    echo "left out: $name isn't built yet"
-  else
+  if ! "$program" compile "$loops/$name.strm" >"$work/$name.c" 2>"$work/err"; then
     echo "$name was not compiled: $(cat "$work/err")" >&2
     exit 1
   fi
+  echo "LOOP($name)" >>"$work/list.h"
 done
-if [ "${#built[@]}" = 0 ]; then
-  echo 'skipped: no pipeline is built'
-  exit 0
-fi
 
 # Rust's iterators, at each offset
 rust_options=()
@@ -63,7 +52,7 @@ timed() {
   for offset in $offsets; do
     "${compile[@]}" "-DOFFSET=$offset" -c "$loops/hand.c" -o "$work/hand-$offset.o"
     objects+=("$work/hand-$offset.o")
-    for name in "${built[@]}"; do
+    for name in $names; do
       "${compile[@]}" "-DOFFSET=$offset" "-DFUNCTION=emitted_${name}_$offset" "-DC_TEXT=\"$name.c\"" \
         -c "$loops/emitted.c" -o "$work/$name-$offset.o"
       objects+=("$work/$name-$offset.o")

@@ -1,14 +1,14 @@
 #!/usr/bin/env python3
 """Random pipelines of the language, each with inputs for it.
 
-    trials/random_pipelines.py [--seed S] [--count N] [--operators LIST] [--flat-map] [--zip] [--nesting N]
+    trials/random_pipelines.py [--seed S] [--count N] [--operators LIST] [--no-flat-map] [--no-zip] [--nesting N]
         [--folder DIR]
 
 prints the texts, or writes them to DIR as 0.strm, 1.strm and so on, with a line for each set of inputs in
 0.inputs. Pipeline k of a seed is always the same. Every text has the right kinds and is within the limits
 of the language. Texts and inputs lean to the edges: empty arrays, counts below 0 and beyond the length,
 ranges that are empty, turned round or at the ends of the words, streams that never end, divisors that are
-0, and names that hide others. `flatMap` and `zip` stand only in texts for which they are asked.
+0, and names that hide others.
 """
 
 import argparse
@@ -60,7 +60,7 @@ class Options:
     """`operators` are the keywords of the operators that may be used, and `nesting` is how deep streams
     may be nested in one another, where `flatMap` or `zip` is among them."""
 
-    operators: tuple = tuple(operator for operator in OPERATORS if operator not in ("flatMap", "zip"))
+    operators: tuple = tuple(OPERATORS)
     nesting: int = 3
     input_sets: int = 5
 
@@ -524,16 +524,16 @@ def add_options(parser):
     """Adds to a parser the options that say which pipelines are made."""
     parser.add_argument("--seed", type=int, default=1)
     parser.add_argument("--operators", help="the operators that may be used, as array,map,print")
-    parser.add_argument("--flat-map", action="store_true", help="pipelines may also have flatMap")
-    parser.add_argument("--zip", action="store_true", help="pipelines may also have zip")
+    parser.add_argument("--no-flat-map", action="store_true", help="pipelines have no flatMap")
+    parser.add_argument("--no-zip", action="store_true", help="pipelines have no zip")
     parser.add_argument("--nesting", type=int, default=3, help="how deep streams are nested at most")
     parser.add_argument("--input-sets", type=int, default=5, help="sets of inputs for each pipeline")
 
 
 def options_of(parser, parsed):
-    operators = set(parsed.operators.split(",")) if parsed.operators else set(OPERATORS) - {"flatMap", "zip"}
-    operators |= {"flatMap"} if parsed.flat_map else set()
-    operators |= {"zip"} if parsed.zip else set()
+    operators = set(parsed.operators.split(",")) if parsed.operators else set(OPERATORS)
+    operators -= {"flatMap"} if parsed.no_flat_map else set()
+    operators -= {"zip"} if parsed.no_zip else set()
     if not operators <= set(OPERATORS) or not operators & {"array", "range", "unfold"}:
         parser.error("operators are " + ", ".join(OPERATORS) + ", with one source besides zip")
     return Options(tuple(sorted(operators)), min(parsed.nesting, 16), parsed.input_sets)

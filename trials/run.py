@@ -1,7 +1,7 @@
 #!/usr/bin/env python3
 """Compiles random pipelines with strymonas and C compilers, runs them, and compares them with lists.
 
-    trials/run.py [--count N] [--seed S] [--only K] [--jobs J] [--flat-map] [--zip] [--nesting D] ..
+    trials/run.py [--count N] [--seed S] [--only K] [--jobs J] [--no-flat-map] [--no-zip] [--nesting D] ..
 
 For each pipeline `strymonas check` must write the counts that are worked out here, and `strymonas compile` a
 C text that has only the forms of the subset, in its layout, and no more variables than its bound. The
@@ -79,7 +79,6 @@ class Settings:
     options: random_pipelines.Options
     batch: int
     folder: str
-    with_unbuilt: bool
     only_check: bool
     with_loops: bool
 
@@ -199,9 +198,6 @@ class Batch:
             self.count(*(f"runs on lists that ended as {run.ending}" for run in runs))
             return False
         compiled = self.strymonas("compile", number)
-        if compiled.returncode == 3 and "Unbuilt" in compiled.stderr and self.settings.with_unbuilt:
-            self.count("pipelines that aren't built yet")
-            return False
         if compiled.returncode != 0:
             self.differs(number, f"compile: {compiled.returncode} {compiled.stderr.strip()}")
             return False
@@ -463,7 +459,6 @@ def parsed_words():
     parser.add_argument("--only", type=int, help="the number of the one pipeline that is tried")
     parser.add_argument("--jobs", type=int, default=2, help="batches at a time")
     parser.add_argument("--batch", type=int, default=40, help="pipelines that are compiled together")
-    parser.add_argument("--unbuilt", action="store_true", help="leave out what is refused as Unbuilt")
     parser.add_argument("--only-check", action="store_true", help="compile nothing")
     parser.add_argument("--loops", action="store_true", help="compare loops, nesting and statements too")
     words = parser.parse_args()
@@ -489,7 +484,6 @@ def main():
         options=options,
         batch=words.batch,
         folder=folder,
-        with_unbuilt=words.unbuilt,
         only_check=words.only_check,
         with_loops=words.loops,
     )

@@ -6,10 +6,10 @@ here=$(cd "$(dirname "${BASH_SOURCE[0]}")" && pwd)
 inputs=0
 texts=0
 
-# built NAME: makes a program of the C text NAME.c in the work folder
+# built NAME [OPTION..]: makes a program of the C text NAME.c in the work folder, with these options of the compiler too
 built() {
   (cd "$work" && "$here/driver.sh" "$1.c") >"$work/$1-main.c"
-  cc -std=c11 -Wall -Wextra -Werror -I"$here" -I"$work" "$work/$1-main.c" -o "$work/$1"
+  cc -std=c11 -Wall -Wextra -Werror "${@:2}" -I"$here" -I"$work" "$work/$1-main.c" -o "$work/$1"
   texts=$((texts + 1))
 }
 
