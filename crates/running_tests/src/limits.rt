@@ -25,7 +25,7 @@ fn is_compiled(alloc: Global, text: &[u8], most: u32) -> Result<bool, NoMemory> 
 }
 
 /// Appends a part so many times.
-fn put_times(text: &mut Vec<u8>, part: &[u8], times: u32) -> Result<(), NoMemory> {
+fn put_times(text: &mut Vec<u8>, part: &[u8], times: usize) -> Result<(), NoMemory> {
     for _ in 0..times {
         put(text, part)?;
     }
@@ -37,9 +37,9 @@ fn nested(
     alloc: Global,
     source: &str,
     row: &str,
-    times: u32,
+    times: usize,
     stages: &[u8],
-    count: u32,
+    count: usize,
 ) -> Result<Vec<u8>, NoMemory> {
     let mut text = Vec::new(alloc);
     for _ in 1..times {
@@ -86,9 +86,8 @@ fn long_stage(alloc: Global) -> Result<Vec<u8>, NoMemory> {
 fn all_limits(alloc: Global) -> Result<Vec<u8>, NoMemory> {
     let stage = long_stage(alloc)?;
     let mut text = nested(alloc, ONE_WORD, "x", 16, stage.as_slice(), 96)?;
-    while text.len() < 65_536 {
-        put(&mut text, b" ")?;
-    }
+    let left = 65_536_usize.saturating_sub(text.len());
+    put_times(&mut text, b" ", left)?;
     Ok(text)
 }
 
