@@ -1,1 +1,2 @@
 pub mod PrintedText
+pub mod ReadText

@@ -3,3 +3,4 @@ pub mod OneOutcome
 pub mod JobOutputs
 pub mod StatusConditions
 pub mod EachRefusal
+pub mod CTexts

@@ -20,16 +20,19 @@ use Rattle.strymonas_run.specs.ReadOutcomes.{IsOnlyOutcome}
 use Rattle.loop_ir.specs.Statements.{Routine}
 use Rattle.loop_ir.specs.WellFormed.{IsWellFormed}
 use Rattle.loop_ir.specs.Layout.{layout}
+use Rattle.c_grammar.specs.Reading.{Reads}
 use Rattle.loop_emit.specs.Headline.{IsEmitted}
 use Rattle.count_lines.specs.CountLines.{counts_text}
 
 -- ---- what a job writes
 
--- the bytes are the C text of a program of the pipeline
+-- the bytes are the C text of a program of the pipeline: by the grammar they read as this program, and as no other
 pub record IsTextOf (p : Pipeline) (c : List ℕ) : Type 0 where
   pub routine : Routine
   pub well_formed : IsWellFormed routine
   pub text : c ≡ layout routine
+  pub reads : Reads c routine
+  pub only : (other : Routine) → Reads c other → other ≡ routine
   pub emitted : IsEmitted p routine
 
 abbrev pub Writes : Job → Pipeline → List ℕ → Type 0

@@ -1,0 +1,17 @@
+pub mod FirstTokens
+pub mod OneName
+pub mod OneOperand
+pub mod OneTest
+pub mod StatementMarks
+pub mod OneBlock
+pub mod OneBody
+pub mod OneParameterList
+pub mod OneCount
+pub mod OneProgram
+pub mod OneReading
+pub mod Cuttings
+pub mod SmallLeaves
+pub mod CutOperands
+pub mod CutStatements
+pub mod CutDeclarations
+pub mod LayoutReads

@@ -1,0 +1,4 @@
+pub mod Characters
+pub mod Symbols
+pub mod Pieces
+pub mod Cutting
