@@ -108,7 +108,7 @@ word_run [] more rest word run = absurd cc
 word_run (c ∷ text) more rest word run =
     let parts = both_true (begins_word c) (all_continue text) word in (parts.0, run_of text more rest parts.1 run)
 
-digit_tells : (c : ℕ) → 48 ≤ c → c ≤ 57 → is_digit c ≡ true
+pub digit_tells : (c : ℕ) → 48 ≤ c → c ≤ 57 → is_digit c ≡ true
 digit_tells c low high = grind (arith, nat_tests)
 
 digit_continues : (c : ℕ) → 48 ≤ c → c ≤ 57 → continues_word c ≡ true

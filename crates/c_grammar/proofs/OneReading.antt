@@ -13,7 +13,7 @@ use Rattle.c_grammar.proofs.OneProgram.{one_program}
 two_ends : (src r s : List ℕ) → src ≡ codes "#include \"pipeline.h\"\n" ++ r → src ≡ codes "#include \"pipeline.h\"\r\n" ++ s → ⊥
 two_ends src r s e f = numbers_apart 10 13 (ap (λ cs. get_or cs 21 0) (sym e ∙ f)) refl
 
-one_rest : (src r s : List ℕ) → HasHeader src r → HasHeader src s → r ≡ s
+pub one_rest : (src r s : List ℕ) → HasHeader src r → HasHeader src s → r ≡ s
 one_rest src r s (inl e) (inl f) = append_cancel_left (codes "#include \"pipeline.h\"\n") r s (sym e ∙ f)
 one_rest src r s (inr e) (inr f) = append_cancel_left (codes "#include \"pipeline.h\"\r\n") r s (sym e ∙ f)
 one_rest src r s (inl e) (inr f) = absurd (two_ends src r s e f)

@@ -13,16 +13,16 @@ use Rattle.c_tokens.proofs.SymbolTexts.{same_symbol, no_empty_symbol}
 use Rattle.c_tokens.proofs.Numbers.{same_bare, same_const, bare_no_const}
 
 -- the sorts of pieces that the first character tells apart
-data Sort : Type 0 where
+pub data Sort : Type 0 where
   OfBlank : Sort
   OfNumber : Sort
   OfWord : Sort
   OfOther : Sort
 
-abbrev sort_at : ℕ → Sort
+abbrev pub sort_at : ℕ → Sort
 sort_at c = cond (is_blank c) OfBlank (cond (is_digit c) OfNumber (cond (begins_word c) OfWord OfOther))
 
-abbrev sort_of : Piece → Sort
+abbrev pub sort_of : Piece → Sort
 sort_of piece.Blank = OfBlank
 sort_of piece.Comment = OfOther
 sort_of (piece.Token (Word w)) = OfWord
@@ -46,7 +46,7 @@ letter_large c h = grind (arith, nat_tests)
 blank_sort : (c : ℕ) → is_blank c ≡ true → sort_at c ≡ OfBlank
 blank_sort c h = rw h refl
 
-number_sort : (c : ℕ) → is_digit c ≡ true → sort_at c ≡ OfNumber
+pub number_sort : (c : ℕ) → is_digit c ≡ true → sort_at c ≡ OfNumber
 number_sort c h =
     let between = digit_between c h in
     let no_blank = fails (is_blank c) (λ b. let small = blank_small c b in omega arith) in
@@ -91,7 +91,7 @@ symbol_sort Percent c cs e = let is : c ≡ 37 = cc in ap sort_at is
 symbol_sort Caret c cs e = let is : c ≡ 94 = cc in ap sort_at is
 
 -- a piece is of the sort that its first character tells
-sort_at_start : (p : Piece) (c : ℕ) (cs rest : List ℕ) → IsPiece p (c ∷ cs) rest → sort_at c ≡ sort_of p
+pub sort_at_start : (p : Piece) (c : ℕ) (cs rest : List ℕ) → IsPiece p (c ∷ cs) rest → sort_at c ≡ sort_of p
 sort_at_start piece.Blank c cs rest h = blank_sort c (let is : c ≡ h.0 = first h.1 in ap is_blank is ∙ h.2)
   where
     first : c ∷ cs ≡ h.0 ∷ [] → c ≡ h.0

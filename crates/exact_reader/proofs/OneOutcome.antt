@@ -5,7 +5,7 @@ use Rattle.exact_reader.specs.Exactness.{Language, Begins, BeginsWithin, GoesNow
 -- ---- two ways to cut the same tokens
 
 -- x before r and y before s are cut at one offset, or the first is cut earlier, or later
-data Cuts {Token : Type 0} (x r y s : List Token) : Type 0 where
+pub data Cuts {Token : Type 0} (x r y s : List Token) : Type 0 where
   Same : x ≡ y → r ≡ s → Cuts x r y s
   Earlier : (t : Token) (d : List Token) → y ≡ x ++ t ∷ d → r ≡ t ∷ (d ++ s) → Cuts x r y s
   Later : (t : Token) (d : List Token) → x ≡ y ++ t ∷ d → s ≡ t ∷ (d ++ r) → Cuts x r y s
@@ -15,7 +15,7 @@ behind {Token} a x r y s (Same i j) = Same (ap (λ (z : List Token). a ∷ z) i)
 behind {Token} a x r y s (Earlier t d i j) = Earlier t d (ap (λ (z : List Token). a ∷ z) i) j
 behind {Token} a x r y s (Later t d i j) = Later t d (ap (λ (z : List Token). a ∷ z) i) j
 
-cuts : {Token : Type 0} (x r y s : List Token) → x ++ r ≡ y ++ s → Cuts x r y s
+pub cuts : {Token : Type 0} (x r y s : List Token) → x ++ r ≡ y ++ s → Cuts x r y s
 cuts [] r [] s e = Same refl e
 cuts [] r (b ∷ y) s e = Earlier b y refl e
 cuts (a ∷ x) r [] s e = Later a x refl (sym e)
