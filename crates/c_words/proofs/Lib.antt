@@ -1,0 +1,4 @@
+pub mod SameTokens
+pub mod WordTexts
+pub mod OneToken
+pub mod SomeToken
