@@ -1,0 +1,6 @@
+pub mod LeavesOfTokens
+pub mod TokensOfLeaves
+pub mod DeclaredTokens
+pub mod ProgramSizes
+pub mod FirstFaults
+pub mod OneAnswer
