@@ -1,0 +1,11 @@
+pub mod Beginnings
+pub mod SomeComment
+pub mod SomeSymbol
+pub mod SomeNumber
+pub mod SomePiece
+pub mod SomeCutting
+pub mod SomeHeader
+pub mod SomeDepth
+pub mod SomeNames
+pub mod SomeProgram
+pub mod SomeAnswer

@@ -1,0 +1,13 @@
+//! Each text has an answer.
+//!
+//! c_faults says what a C text is answered with, its program or its first fault, and that this is one
+//! alone. The law here says that there is one for each text, whatever its bytes, with no refusal of
+//! memory: the line of the header stands there or doesn't, the text is cut to its end or stops, its
+//! brackets are within the limit or aren't, its tokens are a program or stop, and its names are all
+//! declared or one isn't. It depends on the laws of c_automaton and c_faults, and on c_words, c_tokens
+//! and c_grammar for what is a token and a program.
+#![tactic(auto)]
+
+mod laws;
+
+pub use laws::texts_have_an_answer;
