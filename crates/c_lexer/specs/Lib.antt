@@ -1,0 +1,6 @@
+pub mod Comments
+pub mod Symbols
+pub mod Numbers
+pub mod Names
+pub mod Prefixes
+pub mod TokensFrom
