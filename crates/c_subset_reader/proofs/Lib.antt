@@ -1,0 +1,5 @@
+pub mod Taking
+pub mod DepthsSoFar
+pub mod NamesSoFar
+pub mod ReachedSoFar
+pub mod TextFaults

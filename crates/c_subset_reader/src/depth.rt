@@ -1,0 +1,55 @@
+ghost use Rattle.std.specs.Prelude.{◌≡◌, ◌<◌, ◌≤◌, List, length, true, IfSome, MatchOption};
+ghost use Rattle.c_faults.specs.Answers.{HasTokenAt, IsTooDeep};
+ghost use Rattle.c_faults.specs.Brackets.{depth_with, is_within, most_open};
+ghost use Rattle.c_grammar.specs.Reading.{whats};
+ghost use Rattle.c_tokens.specs.Cutting.{Token, AreTokensOf};
+ghost use Rattle.c_tokens.specs.Pieces.{What, Sym};
+ghost use Rattle.c_words.specs.Words.{StandsFor};
+
+use c_lexer::Cursor;
+use c_tokens::Symbol;
+use c_words::CToken;
+
+/// How many brackets may be open.
+const MOST_OPEN: u32 = 1_024;
+
+/// How many brackets are open behind a symbol.
+fn depth_with_symbol(depth: u32, symbol: Symbol) -> u32
+    requires { depth ≤ most_open }
+    ensures { result ≡ depth_with depth (Sym symbol) }
+{
+    match symbol {
+        Symbol::OpenParen | Symbol::OpenBrace => depth + 1,
+        Symbol::CloseParen | Symbol::CloseBrace => depth.saturating_sub(1),
+        _ => depth,
+    }
+}
+
+/// How many brackets are open behind a token.
+fn depth_with(depth: u32, token: CToken) -> u32
+    requires { depth ≤ most_open }
+    ensures { (what : What) → StandsFor token what → result ≡ depth_with depth what }
+{
+    match token {
+        CToken::Sym(symbol) => depth_with_symbol(depth, symbol),
+        _ => depth,
+    }
+}
+
+/// The offset of the bracket with which more are open than may be; none where none is.
+pub fn depth_fault(text: &[u8]) -> Option<usize>
+    requires { (toks : List Token) × AreTokensOf text.now toks }
+    ensures fault { (toks : List Token) → AreTokensOf text.now toks
+        → MatchOption result (is_within 0 (whats toks) ≡ true) (λ at. HasTokenAt at IsTooDeep toks) }
+    ensures within { IfSome result (λ at. at < length text.now) }
+{
+    let mut depth = 0;
+    let mut cursor = Cursor::new(text);
+    while let Some(found) = cursor.next_token() {
+        depth = depth_with(depth, found.token);
+        if depth > MOST_OPEN {
+            return Some(found.at);
+        }
+    }
+    None
+}

@@ -1,0 +1,73 @@
+ghost use Rattle.std.specs.Prelude.{◌≡◌, ◌<◌, ◌^◌, List, length, IfErr, IfOk, IfSome, MatchOption, MatchResult, option_map};
+ghost use Rattle.c_automaton.specs.Automaton.{finish, start};
+ghost use Rattle.c_faults.specs.Answers.{StopsThere};
+ghost use Rattle.c_grammar.specs.Grammar.{IsProgram};
+ghost use Rattle.c_grammar.specs.Reading.{whats};
+ghost use Rattle.c_program_reader.specs.StateCopies.{routine_of, state_of};
+ghost use Rattle.c_subset_reader.specs.Reached.{IsReached};
+ghost use Rattle.c_subset_reader.specs.TextAnswers.{IsPlaceWithin, IsSyntaxFault};
+ghost use Rattle.c_tokens.specs.Cutting.{Token, AreTokensOf};
+
+use c_automaton::programs_are_read_exactly;
+use c_faults::CFault;
+use c_lexer::Cursor;
+use c_program_reader::{Parsed, ProgramReader};
+use std::alloc::Global;
+use strm_num::NoMemory;
+
+/// The reader before the first token.
+fn new_reader(alloc: Global) -> Result<Box<ProgramReader>, NoMemory>
+    ensures { IfOk result (λ reader. state_of reader.value ≡ start) }
+{
+    Ok(Box::new(alloc, ProgramReader::new(alloc)?)?)
+}
+
+/// The parts of the program, where the tokens end; none if they only begin one.
+fn finish(alloc: Global, reader: Box<ProgramReader>) -> Result<Option<Box<Parsed>>, NoMemory>
+    ensures { IfOk result (λ found. finish (state_of reader.value)
+        ≡ option_map (λ parts. routine_of parts.value) found) }
+{
+    match Box::into_inner(reader).finish()? {
+        Some(parts) => Ok(Some(Box::new(alloc, parts)?)),
+        None => Ok(None),
+    }
+}
+
+/// Takes all tokens, or answers the offset of the first with which no program goes on.
+fn take_all(reader: &mut ProgramReader, text: &[u8]) -> Result<Option<usize>, NoMemory>
+    requires fresh { state_of reader.old ≡ start }
+    requires tokens { (toks : List Token) × AreTokensOf text.now toks }
+    ensures takes { (toks : List Token) → AreTokensOf text.now toks → IfOk result (λ stop.
+        MatchOption stop (IsReached (state_of reader.new) toks)
+        (λ at. StopsThere (length text.now) at toks)) }
+    ensures within { IfOk result (λ stop. IfSome stop (λ at. at < length text.now)) }
+{
+    programs_are_read_exactly();
+    let mut cursor = Cursor::new(text);
+    while let Some(found) = cursor.next_token() {
+        if !reader.take(found.token)? {
+            return Ok(Some(found.at));
+        }
+    }
+    Ok(None)
+}
+
+/// The parts of the program whose tokens a text has, or the offset where they stop to begin one: that of
+/// a token, or the text's length.
+pub fn parsed(alloc: Global, text: &[u8]) -> Result<Box<Parsed>, CFault>
+    requires short { length text.now < 2 ^ 32 }
+    requires tokens { (toks : List Token) × AreTokensOf text.now toks }
+    ensures parses { (toks : List Token) → AreTokensOf text.now toks → MatchResult result
+        (λ parts. IsProgram (routine_of parts.value) (whats toks)) (IsSyntaxFault text.now toks) }
+    ensures within { IfErr result (IsPlaceWithin (length text.now)) }
+{
+    programs_are_read_exactly();
+    let mut reader = new_reader(alloc)?;
+    if let Some(at) = take_all(&mut reader, text)? {
+        return Err(CFault::Syntax(at as u32));
+    }
+    match finish(alloc, reader)? {
+        Some(parts) => Ok(parts),
+        None => Err(CFault::Syntax(text.len() as u32)),
+    }
+}
