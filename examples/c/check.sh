@@ -40,4 +40,10 @@ gives surcharge '' 2 5 '[100 50]'
 gives surcharge '' 2 five '[100 50]' 10
 gives surcharge '' 2 5 '[100 9223372036854775808]' 10
 
+# the examples that aren't run are read back too
+for example in ../*.strm; do
+  "$program" compile "$example" >"$work/example.c"
+  reads_back "$work/example.c"
+done
+
 echo "the C texts of $texts examples give what was worked out by hand, for $inputs inputs"

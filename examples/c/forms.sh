@@ -5,6 +5,7 @@
 set -eu
 cd "$(dirname "$0")"
 . ../program.sh
+. ./reading_back.sh
 
 # strict WORD..: a form needn't read x, y and the item of the array, so C texts may set or have what
 # they don't read; every other warning is an error
@@ -12,10 +13,11 @@ strict() {
   cc -std=c11 -Wall -Wextra -Werror -Wno-unused-parameter -Wno-unused-but-set-variable -Ipairs "$@"
 }
 
-# built FORM: makes the program pairs of the C text of a pipeline whose rows are this form
+# built FORM: makes the program pairs of the C text of a pipeline whose rows are this form, once it is read back
 built() {
   echo "input x: int; input y: int; input a: array; array a | map z -> $1 | print" >"$work/form.strm"
   "$program" compile "$work/form.strm" >"$work/form.c"
+  reads_back "$work/form.c"
   strict "$work/form.c" "$work/pairs.o" -o "$work/pairs"
 }
 

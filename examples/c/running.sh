@@ -1,13 +1,16 @@
 # Sourced by scripts that compile C texts with a real C compiler and run them. It sources program.sh, which
-# sets `program` and the folder `work`.
+# sets `program` and the folder `work`, and reading_back.sh.
 # shellcheck shell=bash
 here=$(cd "$(dirname "${BASH_SOURCE[0]}")" && pwd)
 . "$here/../program.sh"
+. "$here/reading_back.sh"
 inputs=0
 texts=0
 
-# built NAME [OPTION..]: makes a program of the C text NAME.c in the work folder, with these options of the compiler too
+# built NAME [OPTION..]: reads the C text NAME.c in the work folder back, and makes a program of it, with these options
+# of the compiler too
 built() {
+  reads_back "$work/$1.c"
   (cd "$work" && "$here/driver.sh" "$1.c") >"$work/$1-main.c"
   cc -std=c11 -Wall -Wextra -Werror "${@:2}" -I"$here" -I"$work" "$work/$1-main.c" -o "$work/$1"
   texts=$((texts + 1))
