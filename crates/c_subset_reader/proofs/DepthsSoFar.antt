@@ -9,12 +9,8 @@ use Rattle.c_lexer.specs.declared.cursor.Found.{Found}
 use Rattle.c_tokens.specs.Cutting.{Token}
 use Rattle.c_tokens.specs.Pieces.{What}
 use Rattle.c_words.specs.Words.{StandsFor}
+use Rattle.c_subset_reader.specs.Depths.{IsDepthOf}
 use Rattle.c_subset_reader.proofs.Taking.{Extends}
-
--- so many are open, and never more than may be
-pub record IsDepthOf (depth : ℕ) (before : List Token) : Type 0 where
-  pub depth_is : depth ≡ depth_behind 0 (whats before)
-  pub within : is_within 0 (whats before) ≡ true
 
 depth_behind-more : (start : ℕ) (x : List Token) (t : Token) → depth_behind start (whats (x ++ t ∷ [])) ≡ depth_with (depth_behind start (whats x)) t.what
 depth_behind-more start [] t = refl

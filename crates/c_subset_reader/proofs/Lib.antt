@@ -2,4 +2,5 @@ pub mod Taking
 pub mod DepthsSoFar
 pub mod NamesSoFar
 pub mod ReachedSoFar
+pub mod BothSoFar
 pub mod TextFaults

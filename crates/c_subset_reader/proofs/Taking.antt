@@ -1,18 +1,11 @@
--- A cursor that goes over the tokens of a text: what holds of the tokens before its place.
+-- What holds of the tokens before the place of a cursor, as it goes on.
 use Rattle.std.proofs.Common.{◌≡◌, List, [], ◌∷◌, ◌++◌, refl, sym, ap, subst, ◌∙◌, append-nil, append_assoc}
 use Rattle.c_faults.specs.Answers.{HasTokenAt}
 use Rattle.c_lexer.specs.TokensFrom.{IsLeft, IsFound, IsTakenOff}
 use Rattle.c_lexer.specs.declared.cursor.Cursor.{Cursor}
 use Rattle.c_lexer.specs.declared.cursor.Found.{Found}
 use Rattle.c_tokens.specs.Cutting.{Token}
-
--- something holds of the tokens before the place of the cursor, and the others are left
-pub record HasTaken (holds : List Token → Type 0) (cursor : Cursor) (toks : List Token) : Type 0 where
-  pub before : List Token
-  pub left : List Token
-  pub parts : toks ≡ before ++ left
-  pub is_left : IsLeft cursor left
-  pub so_far : holds before
+use Rattle.c_subset_reader.specs.Taken.{HasTaken}
 
 pub taken_none : (holds : List Token → Type 0) (cursor : Cursor) (toks : List Token) → IsLeft cursor toks → holds [] → HasTaken holds cursor toks
 taken_none holds cursor toks h so_far = record { before = []; left = toks; parts = refl; is_left = h; so_far = so_far }
@@ -20,6 +13,10 @@ taken_none holds cursor toks h so_far = record { before = []; left = toks; parts
 -- what holds of the tokens that were taken holds of one more
 abbrev pub Extends : Found → (List Token → Type 0) → (List Token → Type 0) → Type 0
 Extends found holds after = (before : List Token) (t : Token) → IsFound found t → holds before → after (before ++ t ∷ [])
+
+-- of one more each of two holds
+pub extends_both : (found : Found) (p q r s : List Token → Type 0) → Extends found p r → Extends found q s → Extends found (λ x. p x × q x) (λ x. r x × s x)
+extends_both found p q r s first second = λ before t seen h. (first before t seen h.0, second before t seen h.1)
 
 pub taken_more : (holds after : List Token → Type 0) (found : Found) (cursor next : Cursor) (toks : List Token) → HasTaken holds cursor toks
     → ((xs : List Token) → IsLeft cursor xs → IsTakenOff found xs next) → Extends found holds after → HasTaken after next toks

@@ -16,14 +16,14 @@ use Rattle.c_program_reader.specs.StateCopies.{routine_of}
 use Rattle.c_program_reader.specs.declared.reader.Parsed.{Parsed}
 use Rattle.c_tokens.specs.Cutting.{Token, AreTokensOf}
 use Rattle.c_tokens.specs.Pieces.{What}
-use Rattle.c_subset_reader.specs.TextAnswers.{HasFault, IsSyntaxFault, IsTextOf, fault_behind}
+use Rattle.c_subset_reader.specs.TextAnswers.{HasFault, IsTokenFault, IsTextOf, fault_behind}
 
-pub syntax_fault : (text : List ℕ) (toks : List Token) (f : CFault) → AreTokensOf text toks → is_within 0 (whats toks) ≡ true → IsSyntaxFault text toks f → HasFault text f
-syntax_fault text toks (fault.Syntax at) tokens within h = record { toks = toks; tokens = tokens; within = within; goes_on = h }
-syntax_fault text toks fault.NoMemory tokens within h = tt
-syntax_fault text toks (fault.Lex at) tokens within h = absurd h
-syntax_fault text toks (fault.TooDeep at) tokens within h = absurd h
-syntax_fault text toks (fault.Unbound at) tokens within h = absurd h
+pub token_fault : (text : List ℕ) (toks : List Token) (f : CFault) → AreTokensOf text toks → IsTokenFault text toks f → HasFault text f
+token_fault text toks (fault.TooDeep at) tokens h = record { toks = toks; tokens = tokens; fault = h }
+token_fault text toks (fault.Syntax at) tokens h = record { toks = toks; tokens = tokens; within = h.0; goes_on = h.1 }
+token_fault text toks fault.NoMemory tokens h = tt
+token_fault text toks (fault.Lex at) tokens h = absurd h
+token_fault text toks (fault.Unbound at) tokens h = absurd h
 
 pub reads_program : (c text : List ℕ) (q : Routine) → HasHeader c text → IsTextOf text q → ReadsAs c (Ok q)
 reads_program c text q header h = (
@@ -44,17 +44,16 @@ reads_fault c text head fault.NoMemory header e h = tt
 abbrev pub IsFirstUndeclared : Names → ℕ → List Token → Type 0
 IsFirstUndeclared names at toks = HasTokenAt at (λ before t. All (λ (u : Token). IsDeclared names u.what) before × IsUndeclared names t.what) toks
 
-pub names_fault : (text : List ℕ) (toks : List Token) (at : ℕ) (p d e : Parsed) → d ≡ p → e ≡ p → AreTokensOf text toks → is_within 0 (whats toks) ≡ true
-    → IsProgram (routine_of p) (whats toks) → IsFirstUndeclared (declared_names d.params e.vars) at toks → IsCutWithin (NamesFrom at) text
-names_fault text toks at p d e i j tokens within program h = record {
+pub names_fault : (text : List ℕ) (toks : List Token) (at : ℕ) (p d : Parsed) → d ≡ p → AreTokensOf text toks → is_within 0 (whats toks) ≡ true
+    → IsProgram (routine_of p) (whats toks) → IsFirstUndeclared (declared_names d.params d.vars) at toks → IsCutWithin (NamesFrom at) text
+names_fault text toks at p d e tokens within program h = record {
   toks = toks;
   tokens = tokens;
   within = within;
   goes_on = record {
     program = routine_of p;
     is = program;
-    fault = subst (λ (x : Parsed). IsFirstUndeclared (declared_names p.params x.vars) at toks) j
-        (subst (λ (x : Parsed). IsFirstUndeclared (declared_names x.params e.vars) at toks) i h);
+    fault = subst (λ (x : Parsed). IsFirstUndeclared (declared_names x.params x.vars) at toks) e h;
   };
 }
 
@@ -71,16 +70,15 @@ WordsLaw = (text : List ℕ) (toks : List Token) (q : Routine) → AreTokensOf t
 abbrev pub ParamsLaw : Type 0
 ParamsLaw = (q : Routine) (toks : List What) → IsProgram q toks → length q.params ≤ 2 ^ 32
 
-pub text_is : NamesLaw → (text : List ℕ) (toks : List Token) (p d e : Parsed) → d ≡ p → e ≡ p → AreTokensOf text toks → is_within 0 (whats toks) ≡ true
-    → IsProgram (routine_of p) (whats toks) → All (λ (t : Token). IsDeclared (declared_names d.params e.vars) t.what) toks → IsTextOf text (routine_of p)
-text_is law text toks p d e i j tokens within program h = record {
+pub text_is : NamesLaw → (text : List ℕ) (toks : List Token) (p d : Parsed) → d ≡ p → AreTokensOf text toks → is_within 0 (whats toks) ≡ true
+    → IsProgram (routine_of p) (whats toks) → All (λ (t : Token). IsDeclared (declared_names d.params d.vars) t.what) toks → IsTextOf text (routine_of p)
+text_is law text toks p d e tokens within program h = record {
   toks = toks;
   tokens = tokens;
   within = within;
   program = program;
   declared = law (routine_of p) toks program
-      (subst (λ (x : Parsed). All (λ (t : Token). IsDeclared (declared_names p.params x.vars) t.what) toks) j
-      (subst (λ (x : Parsed). All (λ (t : Token). IsDeclared (declared_names x.params e.vars) t.what) toks) i h));
+      (subst (λ (x : Parsed). All (λ (t : Token). IsDeclared (declared_names x.params x.vars) t.what) toks) e h);
 }
 
 pub text_is_well_formed : WordsLaw → ParamsLaw → (text : List ℕ) (q : Routine) → IsTextOf text q → IsWellFormed q

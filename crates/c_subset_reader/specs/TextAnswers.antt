@@ -7,7 +7,7 @@ use Rattle.loop_ir.specs.Routines.{routine_of}
 use Rattle.c_tokens.specs.Cutting.{Token, AreTokensOf}
 use Rattle.c_grammar.specs.Grammar.{IsProgram}
 use Rattle.c_grammar.specs.Reading.{whats}
-use Rattle.c_faults.specs.Answers.{Answer, IsCutWithin, IsDepthFault, IsLexFault, NamesFrom, StopsThere}
+use Rattle.c_faults.specs.Answers.{Answer, HasTokenAt, IsCutWithin, IsDepthFault, IsLexFault, IsTooDeep, NamesFrom, StopsThere}
 use Rattle.c_faults.specs.Brackets.{is_within}
 use Rattle.c_faults.specs.declared.fault.CFault.{CFault}
 use Rattle.c_faults.specs.declared.fault.CFault.TheVariants as fault
@@ -27,11 +27,13 @@ HasFault text (fault.Syntax at) = IsCutWithin (StopsThere (length text) at) text
 HasFault text (fault.Unbound at) = IsCutWithin (NamesFrom at) text
 HasFault text fault.NoMemory = Unit {0}
 
--- the tokens begin a program up to the place of the fault, or memory was refused
-abbrev pub IsSyntaxFault : List ℕ → List Token → CFault → Type 0
-IsSyntaxFault text toks (fault.Syntax at) = StopsThere (length text) at toks
-IsSyntaxFault text toks fault.NoMemory = Unit {0}
-IsSyntaxFault text toks f = ⊥
+-- a bracket is too deep at the place of the fault; or none is, and the tokens begin a program up to that
+-- place; or memory was refused
+abbrev pub IsTokenFault : List ℕ → List Token → CFault → Type 0
+IsTokenFault text toks (fault.TooDeep at) = HasTokenAt at IsTooDeep toks
+IsTokenFault text toks (fault.Syntax at) = (is_within 0 (whats toks) ≡ true) × StopsThere (length text) at toks
+IsTokenFault text toks fault.NoMemory = Unit {0}
+IsTokenFault text toks f = ⊥
 
 -- the place of a fault is in a text of this length, or at its end
 abbrev pub IsPlaceWithin : ℕ → CFault → Type 0

@@ -2,8 +2,10 @@ ghost use Rattle.std.specs.Prelude.{◌≡◌, ◌<◌, ◌≤◌, List, length,
 ghost use Rattle.c_faults.specs.Answers.{HasTokenAt, IsTooDeep};
 ghost use Rattle.c_faults.specs.Brackets.{depth_with, is_within, most_open};
 ghost use Rattle.c_grammar.specs.Reading.{whats};
-ghost use Rattle.c_tokens.specs.Cutting.{Token, AreTokensOf};
+ghost use Rattle.c_tokens.specs.Cutting.{Token};
 ghost use Rattle.c_tokens.specs.Pieces.{What, Sym};
+ghost use Rattle.c_subset_reader.specs.Depths.{IsDepthOf};
+ghost use Rattle.c_subset_reader.specs.Taken.{HasTaken};
 ghost use Rattle.c_words.specs.Words.{StandsFor};
 
 use c_lexer::Cursor;
@@ -11,7 +13,7 @@ use c_tokens::Symbol;
 use c_words::CToken;
 
 /// How many brackets may be open.
-const MOST_OPEN: u32 = 1_024;
+pub const MOST_OPEN: u32 = 1_024;
 
 /// How many brackets are open behind a symbol.
 fn depth_with_symbol(depth: u32, symbol: Symbol) -> u32
@@ -26,7 +28,7 @@ fn depth_with_symbol(depth: u32, symbol: Symbol) -> u32
 }
 
 /// How many brackets are open behind a token.
-fn depth_with(depth: u32, token: CToken) -> u32
+pub fn depth_with(depth: u32, token: CToken) -> u32
     requires { depth ≤ most_open }
     ensures { (what : What) → StandsFor token what → result ≡ depth_with depth what }
 {
@@ -36,15 +38,17 @@ fn depth_with(depth: u32, token: CToken) -> u32
     }
 }
 
-/// The offset of the bracket with which more are open than may be; none where none is.
-pub fn depth_fault(text: &[u8]) -> Option<usize>
-    requires { (toks : List Token) × AreTokensOf text.now toks }
-    ensures fault { (toks : List Token) → AreTokensOf text.now toks
+/// The offset of the first bracket from a place on with which more are open than may be, where so many are
+/// open at that place; none where none is.
+pub fn depth_fault(cursor: Cursor, depth: u32) -> Option<usize>
+    requires small { depth ≤ most_open }
+    requires taken { (toks : List Token) × HasTaken (IsDepthOf depth) cursor toks }
+    ensures fault { (toks : List Token) → HasTaken (IsDepthOf depth) cursor.entry toks
         → MatchOption result (is_within 0 (whats toks) ≡ true) (λ at. HasTokenAt at IsTooDeep toks) }
-    ensures within { IfSome result (λ at. at < length text.now) }
+    ensures within { IfSome result (λ at. at < length cursor.entry.text.now) }
 {
-    let mut depth = 0;
-    let mut cursor = Cursor::new(text);
+    let mut depth = depth;
+    let mut cursor = cursor;
     while let Some(found) = cursor.next_token() {
         depth = depth_with(depth, found.token);
         if depth > MOST_OPEN {

@@ -1,13 +1,14 @@
-ghost use Rattle.std.specs.Prelude.{◌≡◌, ◌<◌, ◌^◌, List, length, IfErr, IfOk, IfSome, MatchOption, MatchResult, option_map};
+ghost use Rattle.std.specs.Prelude.{◌≡◌, ◌<◌, ◌^◌, List, length, IfErr, IfOk, MatchResult, option_map, true};
 ghost use Rattle.c_automaton.specs.Automaton.{finish, start};
-ghost use Rattle.c_faults.specs.Answers.{StopsThere};
+ghost use Rattle.c_faults.specs.Brackets.{is_within};
 ghost use Rattle.c_grammar.specs.Grammar.{IsProgram};
 ghost use Rattle.c_grammar.specs.Reading.{whats};
 ghost use Rattle.c_program_reader.specs.StateCopies.{routine_of, state_of};
 ghost use Rattle.c_subset_reader.specs.Reached.{IsReached};
-ghost use Rattle.c_subset_reader.specs.TextAnswers.{IsPlaceWithin, IsSyntaxFault};
+ghost use Rattle.c_subset_reader.specs.TextAnswers.{IsPlaceWithin, IsTokenFault};
 ghost use Rattle.c_tokens.specs.Cutting.{Token, AreTokensOf};
 
+use crate::depth::{MOST_OPEN, depth_fault, depth_with};
 use c_automaton::programs_are_read_exactly;
 use c_faults::CFault;
 use c_lexer::Cursor;
@@ -33,39 +34,48 @@ fn finish(alloc: Global, reader: Box<ProgramReader>) -> Result<Option<Box<Parsed
     }
 }
 
-/// Takes all tokens, or answers the offset of the first with which no program goes on.
-fn take_all(reader: &mut ProgramReader, text: &[u8]) -> Result<Option<usize>, NoMemory>
+/// Takes all tokens; or answers the bracket that is too deep, or, where none is, the first token with which
+/// no program goes on.
+fn take_all(reader: &mut ProgramReader, text: &[u8]) -> Result<(), CFault>
+    requires short { length text.now < 2 ^ 32 }
     requires fresh { state_of reader.old ≡ start }
     requires tokens { (toks : List Token) × AreTokensOf text.now toks }
-    ensures takes { (toks : List Token) → AreTokensOf text.now toks → IfOk result (λ stop.
-        MatchOption stop (IsReached (state_of reader.new) toks)
-        (λ at. StopsThere (length text.now) at toks)) }
-    ensures within { IfOk result (λ stop. IfSome stop (λ at. at < length text.now)) }
+    ensures takes { (toks : List Token) → AreTokensOf text.now toks → MatchResult result
+        (λ done. (is_within 0 (whats toks) ≡ true) × IsReached (state_of reader.new) toks)
+        (IsTokenFault text.now toks) }
+    ensures within { IfErr result (IsPlaceWithin (length text.now)) }
 {
     programs_are_read_exactly();
+    let mut depth = 0;
     let mut cursor = Cursor::new(text);
     while let Some(found) = cursor.next_token() {
+        depth = depth_with(depth, found.token);
+        if depth > MOST_OPEN {
+            return Err(CFault::TooDeep(found.at as u32));
+        }
         if !reader.take(found.token)? {
-            return Ok(Some(found.at));
+            return match depth_fault(cursor, depth) {
+                Some(at) => Err(CFault::TooDeep(at as u32)),
+                None => Err(CFault::Syntax(found.at as u32)),
+            };
         }
     }
-    Ok(None)
+    Ok(())
 }
 
-/// The parts of the program whose tokens a text has, or the offset where they stop to begin one: that of
-/// a token, or the text's length.
+/// The parts of the program whose tokens a text has; or the offset of the bracket that is too deep, or,
+/// where none is, the offset where the tokens stop to begin a program: that of a token, or the text's length.
 pub fn parsed(alloc: Global, text: &[u8]) -> Result<Box<Parsed>, CFault>
     requires short { length text.now < 2 ^ 32 }
     requires tokens { (toks : List Token) × AreTokensOf text.now toks }
     ensures parses { (toks : List Token) → AreTokensOf text.now toks → MatchResult result
-        (λ parts. IsProgram (routine_of parts.value) (whats toks)) (IsSyntaxFault text.now toks) }
+        (λ parts. (is_within 0 (whats toks) ≡ true) × IsProgram (routine_of parts.value) (whats toks))
+        (IsTokenFault text.now toks) }
     ensures within { IfErr result (IsPlaceWithin (length text.now)) }
 {
     programs_are_read_exactly();
     let mut reader = new_reader(alloc)?;
-    if let Some(at) = take_all(&mut reader, text)? {
-        return Err(CFault::Syntax(at as u32));
-    }
+    take_all(&mut reader, text)?;
     match finish(alloc, reader)? {
         Some(parts) => Ok(parts),
         None => Err(CFault::Syntax(text.len() as u32)),

@@ -5,7 +5,6 @@ ghost use Rattle.c_subset_reader.specs.TextAnswers.{HasFault, IsPlaceWithin, IsT
 ghost use Rattle.loop_ir.specs.WellFormed.{IsWellFormed};
 
 use crate::MOST_C_BYTES;
-use crate::depth::depth_fault;
 use crate::header::behind_header;
 use crate::names::name_fault;
 use crate::parsing::parsed;
@@ -33,11 +32,8 @@ fn parts_of(alloc: Global, text: &[u8]) -> Result<Box<Parsed>, CFault>
     if let Some(at) = first_fault(text) {
         return Err(CFault::Lex(at as u32));
     }
-    if let Some(at) = depth_fault(text) {
-        return Err(CFault::TooDeep(at as u32));
-    }
     let parts = parsed(alloc, text)?;
-    if let Some(at) = name_fault(text, &parts.params, parts.vars) {
+    if let Some(at) = name_fault(text, &parts) {
         return Err(CFault::Unbound(at as u32));
     }
     Ok(parts)

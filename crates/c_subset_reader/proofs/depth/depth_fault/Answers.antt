@@ -2,11 +2,12 @@ use Rattle.std.proofs.Common.{◌<◌, ℕ, subst, ◌∙◌}
 use Rattle.c_faults.specs.Answers.{IsTooDeep}
 use Rattle.c_faults.specs.Brackets.{most_open}
 use Rattle.c_subset_reader.proofs.Taking.{taken_more, taken_all, taken_last}
-use Rattle.c_subset_reader.proofs.DepthsSoFar.{IsDepthOf, depth_taken, depth_too_large}
+use Rattle.c_subset_reader.specs.Depths.{IsDepthOf}
+use Rattle.c_subset_reader.proofs.DepthsSoFar.{depth_taken, depth_too_large}
 use Rattle.c_subset_reader.proofs.depth.depth_fault.Goals as goal
 
 pub next_token-requires : goal.next_token-requires
-next_token-requires c = let h = c.loop-found.invariant.taken c.requires.0 c.requires.1 in (h.left, h.is_left)
+next_token-requires c = let h = c.loop-found.invariant.taken c.requires.taken.0 c.requires.taken.1 in (h.left, h.is_left)
 
 pub returns-then-depth-gt-MOST_OPEN-clause-fault : goal.returns-then-depth-gt-MOST_OPEN-clause-fault
 returns-then-depth-gt-MOST_OPEN-clause-fault c = λ toks h.

@@ -1,15 +1,15 @@
 use Rattle.std.proofs.Common.{◌≡◌, ◌≤◌, ◌-◌, List, length}
 use Rattle.c_faults.specs.Brackets.{most_open}
-use Rattle.c_tokens.specs.Cutting.{Token, AreTokensOf}
-use Rattle.c_subset_reader.proofs.Taking.{HasTaken}
-use Rattle.c_subset_reader.proofs.DepthsSoFar.{IsDepthOf}
+use Rattle.c_tokens.specs.Cutting.{Token}
+use Rattle.c_subset_reader.specs.Taken.{HasTaken}
+use Rattle.c_subset_reader.specs.Depths.{IsDepthOf}
 use Rattle.c_subset_reader.proofs.depth.depth_fault.Given as goal
 
 abbrev pub invariant-loop-found : goal.invariant-loop-found
 invariant-loop-found l = record {
-  text : l.cursor.text.now ≡ l.text;
+  text : l.cursor.text.now ≡ l.fn.cursor.text.now;
   small : l.depth ≤ most_open;
-  taken : (toks : List Token) → AreTokensOf l.text toks → HasTaken (IsDepthOf l.depth) l.cursor toks;
+  taken : (toks : List Token) → HasTaken (IsDepthOf l.fn.depth) l.fn.cursor toks → HasTaken (IsDepthOf l.depth) l.cursor toks;
 }
 
 abbrev pub decreases-loop-found : goal.decreases-loop-found

@@ -1,30 +1,13 @@
-use Rattle.std.proofs.Common.{List, ◌∙◌, sym}
-use Rattle.c_faults.specs.Undeclared.{IsUndeclared}
-use Rattle.c_tokens.specs.Cutting.{Token}
-use Rattle.loop_ir.specs.DeclaredNames.{declared_names}
-use Rattle.c_subset_reader.proofs.Taking.{taken_more, taken_all, taken_last}
-use Rattle.c_subset_reader.proofs.NamesSoFar.{AreDeclared, names_taken, undeclared_is}
+use Rattle.std.proofs.Common.{◌≡◌, List, true, sym, ap, ◌∙◌}
+use Rattle.loop_ir.specs.DeclaredNames.{block_names, declared_names}
+use Rattle.loop_ir.specs.StatementCopies.{block_of}
+use Rattle.loop_ir.specs.declared.syntax.Stmt.{Stmt}
+use Rattle.c_program_reader.specs.StateCopies.{routine_of}
 use Rattle.c_subset_reader.proofs.names.name_fault.Goals as goal
 
-pub next_token-requires : goal.next_token-requires
-next_token-requires c = let h = c.loop-found.invariant.taken c.requires.0 c.requires.1 in (h.left, h.is_left)
-
-pub returns-then-not-is_declared-clause-fault : goal.returns-then-not-is_declared-clause-fault
-returns-then-not-is_declared-clause-fault c = λ toks h.
-    let names = declared_names c.args.params.now c.args.vars in
-    taken_last (AreDeclared names) (λ (before : List Token) (t : Token). AreDeclared names before × IsUndeclared names t.what) c.in-Some.found c.loop-found.cursor c.next_token.new.self toks
-    (c.loop-found.invariant.taken toks h) c.in-Some.ensures.takes
-    (λ before t seen so_far. (so_far, undeclared_is names c.in-Some.found.token t.what seen.stands (sym c.is_declared.ensures ∙ c.if-not-is_declared.true)))
-
-pub loop-found-preserved : goal.loop-found-preserved
-loop-found-preserved c =
-    let names = declared_names c.args.params.now c.args.vars in
-    record {
-      text = c.in-Some.ensures.text ∙ c.loop-found.invariant.text;
-      taken = λ toks h. taken_more (AreDeclared names) (AreDeclared names) c.in-Some.found c.loop-found.cursor c.next_token.new.self toks (c.loop-found.invariant.taken toks h)
-          c.in-Some.ensures.takes (names_taken names c.in-Some.found (sym c.is_declared.ensures ∙ c.if-not-is_declared.false));
-    }
-
-pub returns-clause-fault : goal.returns-clause-fault
-returns-clause-fault c = λ toks h.
-    taken_all (AreDeclared (declared_names c.args.params.now c.args.vars)) c.loop-found.cursor c.next_token.new.self toks (c.loop-found.invariant.taken toks h) c.in_default.ensures.takes
+pub returns-then-block_names-clause-fault : goal.returns-then-block_names-clause-fault
+returns-then-block_names-clause-fault c = λ toks h.
+    let p = c.args.parts.now in
+    let e : block_names (declared_names p.params p.vars) (block_of p.body) ≡ true =
+    ap (λ (ss : List Stmt). block_names (declared_names p.params p.vars) (block_of ss)) (sym c.as_slice.ensures) ∙ sym c.block_names.ensures ∙ c.if-block_names.true in
+    c.declared_tokens_are_declared_names.ensures.tokens (routine_of p) toks (c.requires.program toks h) e

@@ -1,9 +1,9 @@
 use Rattle.std.proofs.Common.{◌≡◌, ◌-◌, List, length}
 use Rattle.c_tokens.specs.Cutting.{Token, AreTokensOf}
 use Rattle.loop_ir.specs.DeclaredNames.{declared_names}
-use Rattle.c_subset_reader.proofs.Taking.{HasTaken}
+use Rattle.c_subset_reader.specs.Taken.{HasTaken}
 use Rattle.c_subset_reader.proofs.NamesSoFar.{AreDeclared}
-use Rattle.c_subset_reader.proofs.names.name_fault.Given as goal
+use Rattle.c_subset_reader.proofs.names.first_undeclared.Given as goal
 
 abbrev pub invariant-loop-found : goal.invariant-loop-found
 invariant-loop-found l = record {
