@@ -1,0 +1,5 @@
+pub mod Values
+pub mod Sizes
+pub mod Output
+pub mod Answers
+pub mod Runs

@@ -1,0 +1,5 @@
+pub mod Bytes
+pub mod Numbers
+pub mod Items
+pub mod Files
+pub mod Steps
