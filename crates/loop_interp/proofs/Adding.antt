@@ -79,11 +79,23 @@ some_put a b p h = record {
 pub placed : (a : Option (List ℕ)) (p q bytes : List ℕ) → q ≡ p ++ bytes → Adds a a p q bytes
 placed a p q bytes e = record { put = []; appended = appends_nothing a; same = e }
 
--- a text that is cut before anything is added is one of any text
-pub cut_at_once : (a b : Option (List ℕ)) (p x : List ℕ) → IsCut a b p [] → IsCut a b p x
-cut_at_once a b p x h = cut_before a b p [] x h
+-- bytes of which the first n fill the buffer, which is put, and the others stand behind what is pending then
+filled : (put rest q p bytes : List ℕ) (n : ℕ) → q ≡ p ++ take n bytes → put ++ rest ≡ q ++ [] → put ++ (rest ++ drop n bytes) ≡ p ++ bytes
+filled put rest q p bytes n e h =
+    sym (append_assoc put rest (drop n bytes))
+    ∙ ap (λ l. l ++ drop n bytes) (h ∙ append-nil q ∙ e)
+    ∙ append_assoc p (take n bytes) (drop n bytes)
+    ∙ ap (λ l. p ++ l) (take-append-drop n bytes)
 
-pub ruleset puts = (adds_nothing, all_put, some_put, placed, writes_then, cut_at_once)
+pub cut_in_two : (a b : Option (List ℕ)) (p q bytes : List ℕ) (n : ℕ) → q ≡ p ++ take n bytes → IsCut a b q [] → IsCut a b p bytes
+cut_in_two a b p q bytes n e h = record {
+  put = h.put;
+  rest = h.rest ++ drop n bytes;
+  appended = h.appended;
+  same = filled h.put h.rest q p bytes n e h.same;
+}
+
+pub ruleset puts = (adds_nothing, all_put, some_put, placed, writes_then)
 
 -- the text of a number is what leads it and its digits
 emit_text : (in_row : Bool) (w : ℕ) → event_text (event_before in_row) (Emit w) ≡ (blank_text in_row ++ sign_text (is_negative w)) ++ decimal (magnitude_of w)

@@ -4,8 +4,8 @@
 //! `specs/Meaning`, and the text of the events so far, by event_texts' `specs/Texts`, was appended to
 //! the sink; where a write failed, a prefix of it. It asks nothing of the inputs, since the meaning of
 //! a program is one on any. `room::registers` gives the room that it works in, and a run takes no
-//! memory: its text is gathered in 4,096 bytes, which are put to the sink where the next piece finds
-//! no room among them, and at the end.
+//! memory: its text is gathered in 4,096 bytes, which are put to the sink where they are full and more
+//! is to come, and at the end.
 //!
 //! `specs/Values` and `specs/Output` say what operands give and what is put; `specs/Runs` says what a
 //! part of a run does, and `specs/Answers` what a run answers. It depends on loop_ir, list_denotation

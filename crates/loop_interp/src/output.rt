@@ -38,7 +38,7 @@ fn place(bytes: &[u8], pending: &mut [u8], fill: &mut u64)
     *fill = end as u64;
 }
 
-/// Adds bytes to the pending ones, which are put first where there is no room for both.
+/// Adds bytes to the pending ones. Where there is no room for all, the buffer is filled and put first.
 #[tactic(auto, using(crate::proofs::Adding::puts))]
 fn add<O: Sink>(
     bytes: &[u8],
@@ -54,10 +54,14 @@ fn add<O: Sink>(
     ensures faults { O.faults sink.old ≤ O.faults sink.new }
     ensures within { fill.new ≤ length pending.old }
 {
-    if bytes.len() > pending.len() - *fill as usize {
-        flush(pending, fill, sink)?;
+    let room = pending.len() - *fill as usize;
+    if bytes.len() <= room {
+        place(bytes, pending, fill);
+        return Ok(());
     }
-    place(bytes, pending, fill);
+    place(&bytes[..room], pending, fill);
+    flush(pending, fill, sink)?;
+    place(&bytes[room..], pending, fill);
     Ok(())
 }
 
