@@ -6,12 +6,14 @@
 //! where the text is refused, which a line on standard error tells with the fault and its place in bytes.
 //!
 //! It promises nothing of its own: `read_c` of c_subset_reader and `print_c` of c_printer do. It depends
-//! on these, on strm_io for the devices of the system, and on text_pieces and strm_num for the line.
+//! on these, on strm_io for the devices of the system, on pipe_limits, and on text_pieces and strm_num for
+//! the line.
 #![tactic(auto)]
 
 use c_printer::print_c;
-use c_subset_reader::{CFault, MOST_C_BYTES, read_c};
+use c_subset_reader::{CFault, read_c};
 use loop_ir::Prog;
+use pipe_limits::MOST_C_BYTES;
 use std::alloc::Global;
 use std::env;
 use std::process::ExitCode;
@@ -50,7 +52,7 @@ fn layout(alloc: Global, program: &Prog, is_check: bool) -> Result<Vec<u8>, CFau
 
 /// What is written for a text.
 fn formatted(alloc: Global, text: &[u8], is_check: bool) -> Result<Vec<u8>, CFault> {
-    if text.len() > MOST_C_BYTES {
+    if text.len() as u64 > MOST_C_BYTES {
         return Err(CFault::NoMemory);
     }
     match read_c(alloc, text) {
@@ -91,7 +93,7 @@ fn main(rt: HostRuntime) -> ExitCode {
     let mut out = HostSink::new(rt.stdout());
     let mut err = HostSink::new(rt.stderr());
     let mut files = HostFiles::new(rt);
-    let Ok(text) = load(alloc, &mut files, name, MOST_C_BYTES as u64) else {
+    let Ok(text) = load(alloc, &mut files, name, MOST_C_BYTES) else {
         return ExitCode::from(NO_FILE);
     };
     match formatted(alloc, text.as_slice(), is_check) {

@@ -3,10 +3,10 @@
 //! `read_c` carries the promise, by c_faults' `specs/Answers`: what it answers is what the text is
 //! answered with, and nothing else is, unless memory is refused. It depends on c_lexer for tokens, on
 //! c_program_reader for programs and on c_automaton for what it reads, on c_faults, c_grammar, c_words and
-//! c_tokens for the definitions, on loop_ir and list_denotation for programs, and on strm_num for the
-//! refusal of memory. It keeps no tokens, and cuts the text twice: whether it has tokens, and then for the
-//! depth of the brackets and the program at once. Names are looked for in the program, and in the text
-//! only where one of them isn't declared.
+//! c_tokens for the definitions, on loop_ir and list_denotation for programs, on pipe_limits, and on
+//! strm_num for the refusal of memory. It keeps no tokens, and cuts the text twice: whether it has
+//! tokens, and then for the depth of the brackets and the program at once. Names are looked for in the
+//! program, and in the text only where one of them isn't declared.
 #![tactic(auto)]
 
 mod depth;
@@ -18,6 +18,3 @@ mod reading;
 
 pub use c_faults::CFault;
 pub use reading::read_c;
-
-/// How many bytes a C text may have.
-pub const MOST_C_BYTES: usize = 33_554_432;

@@ -4,7 +4,6 @@ ghost use Rattle.c_program_reader.specs.StateCopies.{routine_of};
 ghost use Rattle.c_subset_reader.specs.TextAnswers.{HasFault, IsPlaceWithin, IsTextOf, answer_of, fault_behind};
 ghost use Rattle.loop_ir.specs.WellFormed.{IsWellFormed};
 
-use crate::MOST_C_BYTES;
 use crate::header::behind_header;
 use crate::names::name_fault;
 use crate::parsing::parsed;
@@ -15,6 +14,7 @@ use c_faults::{
 use c_lexer::first_fault;
 use c_program_reader::Parsed;
 use loop_ir::Prog;
+use pipe_limits::MOST_C_BYTES;
 use std::alloc::Global;
 
 /// The parts of the program of a text behind the line of the header. The place of a fault is an offset in

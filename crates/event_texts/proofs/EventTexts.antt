@@ -5,7 +5,8 @@ use Rattle.std.proofs.lemmas.List.Elements.{All-head, All-tail}
 use Rattle.strm_num.specs.Words.{IsWord}
 use Rattle.list_denotation.specs.declared.event.Event.{Event}
 use Rattle.list_denotation.specs.declared.event.Event.TheVariants.{Emit, EndRow}
-use Rattle.event_texts.specs.Texts.{signed_text, event_text, text_after, events_text, IsWordEvent}
+use Rattle.strm_num.specs.SignedTexts.{signed_text}
+use Rattle.event_texts.specs.Texts.{event_text, text_after, events_text, IsWordEvent}
 use Rattle.event_texts.proofs.NumberTexts.{Stops, same_number, no_stop, word_is_number, same_word}
 
 -- ---- which events a text is of

@@ -5,7 +5,7 @@ use Rattle.std.proofs.lemmas.Fmt.{decimal_is_IsNumeral, decimal_injective}
 use Rattle.std.proofs.lemmas.Str.Parse.{digit_from_value}
 use Rattle.strm_num.specs.Words.{IsWord}
 use Rattle.strm_num.specs.Magnitudes.{is_negative, magnitude_of}
-use Rattle.event_texts.specs.Texts.{sign_text, signed_text}
+use Rattle.strm_num.specs.SignedTexts.{sign_text, signed_text}
 
 -- ---- where it ends: the characters of numbers are `-`, which is 45, and above; a blank and a line feed are below
 

@@ -1,18 +1,9 @@
 -- The text that a run writes: what its events are as characters, one behind another.
-use Rattle.std.specs.Prelude.{ℕ, List, [], ◌∷◌, ◌++◌, Bool, true, false, codes, decimal}
+use Rattle.std.specs.Prelude.{ℕ, List, [], ◌∷◌, ◌++◌, codes}
 use Rattle.strm_num.specs.Words.{IsWord}
-use Rattle.strm_num.specs.Magnitudes.{is_negative, magnitude_of}
+use Rattle.strm_num.specs.SignedTexts.{signed_text}
 use Rattle.list_denotation.specs.declared.event.Event.{Event}
 use Rattle.list_denotation.specs.declared.event.Event.TheVariants.{Emit, EndRow}
-
--- the sign of a number, where it is below 0
-abbrev pub sign_text : Bool → List ℕ
-sign_text true = codes "-"
-sign_text false = []
-
--- the signed value of a word in decimal
-abbrev pub signed_text : ℕ → List ℕ
-signed_text w = sign_text (is_negative w) ++ decimal (magnitude_of w)
 
 -- the text of an event, by the event before it: a blank stands between two numbers
 abbrev pub event_text : Event → Event → List ℕ

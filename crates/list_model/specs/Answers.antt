@@ -7,7 +7,7 @@ use Rattle.list_denotation.specs.Work.{work}
 use Rattle.list_model.specs.declared.fault.ModelFault.{ModelFault}
 use Rattle.list_model.specs.declared.fault.ModelFault.TheVariants as fault
 use Rattle.list_model.specs.declared.observation.Observation.{Observation}
-use Rattle.list_model.specs.declared.observation.TheConstants.{MOST_WORK}
+use Rattle.pipe_limits.specs.declared.TheConstants.{MOST_WORK}
 use Rattle.list_model.specs.Seen.{seen_of}
 
 -- nothing is said where memory was refused

@@ -14,12 +14,9 @@ use crate::rows::{Ending, ListedRows, joined};
 use crate::streams::list_rows;
 use expr_values::row_value;
 use list_denotation::{Event, Events, Exprs, Inputs, Program, Terminal, Words};
+use pipe_limits::MOST_WORK;
 use std::alloc::Global;
 use strm_num::{List, NoMemory};
-
-/// The most work of a pipeline that is observed: the rows of each source that it opens, and 1 for
-/// each opening.
-pub const MOST_WORK: u64 = 1_000_000;
 
 /// How a run stops: it is done, it is still going at the bound, or an expression trapped.
 #[derive(Clone, Copy)]

@@ -7,7 +7,8 @@ use Rattle.std.proofs.lemmas.List.{take-append-drop}
 use Rattle.std.specs.Prelude.{drop, decimal, Bool, true, false, ◌∷◌}
 use Rattle.strm_num.specs.Magnitudes.{is_negative, magnitude_of}
 use Rattle.list_denotation.specs.declared.event.Event.TheVariants.{Emit, EndRow}
-use Rattle.event_texts.specs.Texts.{event_text, sign_text}
+use Rattle.strm_num.specs.SignedTexts.{sign_text}
+use Rattle.event_texts.specs.Texts.{event_text}
 use Rattle.loop_interp.specs.Output.{Adds, IsCut, Writes, event_before, blank_text}
 
 pub appends_nothing : (a : Option (List ℕ)) → Appends a a []

@@ -2,7 +2,8 @@
 
 ghost use Rattle.std.specs.Prelude.{◌≡◌, ◌≤◌, ◌+◌, ◌++◌, [], length, take, OnOk};
 ghost use Rattle.list_denotation.specs.declared.event.Event.TheVariants.{Emit, EndRow};
-ghost use Rattle.event_texts.specs.Texts.{event_text, sign_text};
+ghost use Rattle.strm_num.specs.SignedTexts.{sign_text};
+ghost use Rattle.event_texts.specs.Texts.{event_text};
 ghost use Rattle.strm_io.specs.Appending.{WriteHasCause};
 ghost use Rattle.loop_interp.specs.Output.{Writes, event_before, blank_text};
 

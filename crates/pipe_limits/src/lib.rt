@@ -1,4 +1,4 @@
-//! The limits of a pipeline text and of its inputs, as the other crates cite them.
+//! The limits of texts, of inputs and of work, as the other crates cite them.
 //!
 //! They keep every count of the program small: offsets in a text fit 32 bits, recursion over streams
 //! ends soon, and what is computed of a program doesn't overflow. It depends on nothing.
@@ -27,3 +27,13 @@ pub const MOST_COMPONENTS: u32 = 8;
 
 /// The most items of an array.
 pub const MOST_ITEMS: u64 = 4_194_304;
+
+/// The most bytes of a value file.
+pub const MOST_VALUE_BYTES: u64 = 67_108_864;
+
+/// The most bytes of a C text.
+pub const MOST_C_BYTES: u64 = 33_554_432;
+
+/// The most work of a pipeline whose lists are computed: the rows of each source that it opens, and 1
+/// for each opening.
+pub const MOST_WORK: u64 = 1_000_000;

@@ -1,7 +1,8 @@
 //! What `read_c` answers to C texts: the program, shown by its layout, or the fault and its place.
 
 use c_printer::print_c;
-use c_subset_reader::{CFault, MOST_C_BYTES, read_c};
+use c_subset_reader::{CFault, read_c};
+use pipe_limits::MOST_C_BYTES;
 use std::alloc::Global;
 use strm_num::NoMemory;
 use text_pieces::{put, put_numbered};
@@ -31,7 +32,7 @@ fn fault_text(alloc: Global, fault: CFault) -> Result<Vec<u8>, NoMemory> {
 
 /// What is answered to a text: the layout of its program, or its fault.
 fn answer(alloc: Global, text: &[u8]) -> Result<Vec<u8>, NoMemory> {
-    if text.len() > MOST_C_BYTES {
+    if text.len() as u64 > MOST_C_BYTES {
         return Err(NoMemory);
     }
     match read_c(alloc, text) {

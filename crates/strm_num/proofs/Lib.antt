@@ -1,3 +1,4 @@
 pub mod Lists
 pub mod Signed
 pub mod Truths
+pub mod DigitCounts

@@ -11,11 +11,13 @@
 mod laws;
 mod list;
 mod memory;
+mod signed_texts;
 mod signed_words;
 
 pub use laws::{signed_division_divides_magnitudes, signed_order_flips_sign_bits};
 pub use list::List;
 pub use memory::NoMemory;
+pub use signed_texts::write_signed;
 pub use signed_words::{SIGN, div_signed, is_negative, less_signed, magnitude, rem_signed};
 
 /// A number from 0 to 2^64 - 1. Its signed value is itself below 2^63, else itself minus 2^64.

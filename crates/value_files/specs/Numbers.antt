@@ -1,5 +1,5 @@
 -- The word that an item stands for: a whole number in decimal notation, from -2^63 to 2^63 - 1.
-use Rattle.std.specs.Prelude.{ℕ, ◌+◌, ◌-◌, ◌*◌, ◌^◌, List, [], ◌∷◌, Bool, true, false, ◌&&◌, length, nat_le, nat_lt, if◌then◌else◌, Result, Ok, Err}
+use Rattle.std.specs.Prelude.{ℕ, ◌+◌, ◌-◌, ◌*◌, ◌^◌, List, [], ◌∷◌, Bool, true, false, ◌&&◌, length, nat_le, nat_lt, if◌then◌else◌, Option, Some, None, Result, Ok, Err}
 use Rattle.std.specs.List.{list_all}
 use Rattle.strm_num.specs.Magnitudes.{with_sign}
 use Rattle.value_files.specs.Bytes.{is_digit, is_minus}
@@ -28,6 +28,14 @@ number_with n (c ∷ cs) = number_with (n * 10 + (c - 48)) cs
 -- the number that decimal digits write
 abbrev pub number_of : List ℕ → ℕ
 number_of = number_with 0
+
+-- a number, or none where it is no word
+abbrev pub within_word : ℕ → Option ℕ
+within_word n = if nat_lt n (2 ^ 64) then Some n else None
+
+-- the number that the text is, if it is decimal digits and the number is a word
+abbrev pub natural_of : List ℕ → Option ℕ
+natural_of digits = if are_digits digits then within_word (number_of digits) else None
 
 -- the largest distance from 0, below it or above it
 abbrev pub most_of : Bool → ℕ

@@ -1,15 +1,11 @@
--- What the steps of `value` and `values` give: a number if it is a word, and the answer to an item at its place.
-use Rattle.std.specs.Prelude.{ℕ, ◌^◌, List, nat_lt, Option, Some, None, Result, Ok, Err, if◌then◌else◌}
+-- What the steps of `values` give: the answer to an item at its place.
+use Rattle.std.specs.Prelude.{ℕ, List, nat_lt, Result, Ok, Err, if◌then◌else◌}
 use Rattle.value_files.specs.Numbers.{value_of}
 use Rattle.pipe_limits.specs.declared.TheConstants.{MOST_ITEMS}
 use Rattle.value_files.specs.declared.fault.ItemFault.{ItemFault}
 use Rattle.value_files.specs.declared.fault.ItemFault.TheVariants as item_fault
 use Rattle.value_files.specs.declared.fault.ValueFault.{ValueFault}
 use Rattle.value_files.specs.declared.fault.ValueFault.TheVariants as fault
-
--- a number, or none where it is no word
-abbrev pub within_word : ℕ → Option ℕ
-within_word n = if nat_lt n (2 ^ 64) then Some n else None
 
 -- the fault of an item as a file's, with the item's place
 abbrev pub placed : ℕ → Result ℕ ItemFault → Result ℕ ValueFault

@@ -1,8 +1,7 @@
 ghost use Rattle.std.specs.Prelude.{◌≡◌, ◌+◌, ◌*◌, ◌-◌, ℕ};
 ghost use Rattle.std.specs.List.{list_all};
 ghost use Rattle.value_files.specs.Bytes.{is_digit};
-ghost use Rattle.value_files.specs.Numbers.{are_digits, digits_of, has_sign, most_of, number_with, value_of, word_or_range};
-ghost use Rattle.value_files.specs.Steps.{within_word};
+ghost use Rattle.value_files.specs.Numbers.{are_digits, digits_of, has_sign, most_of, natural_of, number_with, value_of, within_word, word_or_range};
 
 use crate::fault::ItemFault;
 use strm_num::{SIGN, Word};
@@ -59,6 +58,18 @@ fn number(digits: &[u8]) -> Option<Word>
         number = with_digit(number, *digit);
     }
     number
+}
+
+/// The number that decimal digits write, leading zeros allowed. None exactly where this isn't one digit
+/// or more and nothing else, or where the number is 2^64 or more.
+pub fn natural(digits: &[u8]) -> Option<Word>
+    ensures { result ≡ natural_of digits.now }
+{
+    if are_digits(digits) {
+        number(digits)
+    } else {
+        None
+    }
 }
 
 /// The largest distance from 0 on this side of it.

@@ -1,6 +1,5 @@
 use Rattle.std.proofs.Common.{take, ap, ◌∙◌, sym, arith}
-use Rattle.value_files.specs.Numbers.{number_with}
-use Rattle.value_files.specs.Steps.{within_word}
+use Rattle.value_files.specs.Numbers.{number_with, within_word}
 use Rattle.value_files.proofs.Digits.{number_with-take_more}
 use Rattle.value_files.proofs.numbers.number.Goals as goal
 

@@ -1,6 +1,5 @@
 use Rattle.std.proofs.Common.{◌≡◌, take}
-use Rattle.value_files.specs.Numbers.{number_with}
-use Rattle.value_files.specs.Steps.{within_word}
+use Rattle.value_files.specs.Numbers.{number_with, within_word}
 use Rattle.value_files.proofs.numbers.number.Given as goal
 
 abbrev pub invariant-loop-digit : goal.invariant-loop-digit
