@@ -1,4 +1,4 @@
-//! The program run over one file in memory, as one text: what the crates of tests compare.
+//! The program run over files in memory, as one text: what the crates of tests compare.
 //!
 //! It depends on strymonas_run, whose `run_words` it calls, on strm_io for devices over memory and on
 //! text_pieces. It promises nothing of its own.
@@ -19,10 +19,13 @@ fn owned(alloc: Global, words: &[&str]) -> Result<Vec<String>, NoMemory> {
     Ok(list)
 }
 
-/// Files of which the one that is held has the name `p`.
-fn file_p(alloc: Global, text: &[u8]) -> Result<MemFiles, NoMemory> {
+/// The file `p` with these bytes, and files with these names and texts.
+fn files_with(alloc: Global, bytes: &[u8], more: &[(&str, &str)]) -> Result<MemFiles, NoMemory> {
     let mut files = MemFiles::new(alloc);
-    files.add("p", text)?;
+    files.add("p", bytes)?;
+    for (name, text) in more {
+        files.add(name, text.as_bytes())?;
+    }
     Ok(files)
 }
 
@@ -36,9 +39,26 @@ fn joined(alloc: Global, out: &[u8], code: u8, line: &[u8]) -> Result<Vec<u8>, N
     Ok(text)
 }
 
-/// What comes of the words over the file `p` with these bytes: what standard output got, the number of
-/// the status in brackets and a blank, and what standard error got. On standard output so many bytes
-/// find room, and on standard error so many.
+/// What comes of the words over the file `p` with these bytes and files with these names and texts: what
+/// standard output got, the number of the status in brackets and a blank, and what standard error got. On
+/// standard output so many bytes find room, and on standard error so many.
+pub fn transcript_over(
+    alloc: Global,
+    words: &[&str],
+    bytes: &[u8],
+    more: &[(&str, &str)],
+    room: u64,
+    line_room: u64,
+) -> Result<Vec<u8>, NoMemory> {
+    let words = owned(alloc, words)?;
+    let mut files = files_with(alloc, bytes, more)?;
+    let mut out = MemSink::with_room(alloc, room)?;
+    let mut err = MemSink::with_room(alloc, line_room)?;
+    let status = run_words(alloc, words.as_slice(), &mut files, &mut out, &mut err);
+    joined(alloc, out.bytes(), status.code(), err.bytes())
+}
+
+/// The same over the file `p` alone.
 pub fn transcript(
     alloc: Global,
     words: &[&str],
@@ -46,12 +66,7 @@ pub fn transcript(
     room: u64,
     line_room: u64,
 ) -> Result<Vec<u8>, NoMemory> {
-    let words = owned(alloc, words)?;
-    let mut files = file_p(alloc, bytes)?;
-    let mut out = MemSink::with_room(alloc, room)?;
-    let mut err = MemSink::with_room(alloc, line_room)?;
-    let status = run_words(alloc, words.as_slice(), &mut files, &mut out, &mut err);
-    joined(alloc, out.bytes(), status.code(), err.bytes())
+    transcript_over(alloc, words, bytes, &[], room, line_room)
 }
 
 /// The transcript of a file that is refused for a reason.

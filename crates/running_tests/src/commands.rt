@@ -59,7 +59,7 @@ const WORDS: [(&[&str], &str); 10] = [
     (&["compile", ""], "[2] strymonas: missing: \n"),
     (&["check", "q"], "[2] strymonas: missing: q\n"),
     (&["check", "p", "q"], "[1] strymonas: words\n"),
-    (&["run", "p"], "[1] strymonas: words\n"),
+    (&["run", "p"], "[9] strymonas: bad input: a: absent\n"),
     (&[], "[1] strymonas: words\n"),
     (&["compile"], "[1] strymonas: words\n"),
     (&["compile", "p", "p"], "[1] strymonas: words\n"),

@@ -1,11 +1,13 @@
 -- One text written after another, and a line that is reported.
-use Rattle.std.proofs.Common.{◌≡◌, inl, inr, ℕ, ◌+◌, ◌≤◌, List, [], ◌++◌, length, take, Option, Some, None, Result, Ok, Err, sym, ap, ◌∙◌, subst, append_assoc, append-nil, length-append, arith}
+use Rattle.std.proofs.Common.{◌≡◌, inl, inr, ℕ, ◌+◌, ◌≤◌, List, [], ◌++◌, length, take, Option, Some, None, Result, Ok, Err, sym, ap, ◌∙◌, subst, append_assoc, append-nil, length-append, arith, refl, codes}
 use Rattle.std.proofs.lemmas.List.{take-append-le}
 use Rattle.std.proofs.Math.Seq.{take-append-add}
 use Rattle.strm_io.specs.Writing.{Appends}
 use Rattle.strm_io.specs.Appending.{PutsAll, WriteHasCause}
 use Rattle.strm_io.specs.declared.appending.WriteFault.{WriteFault}
-use Rattle.status_lines.specs.StatusLines.{Reports}
+use Rattle.status_lines.specs.StatusLines.{Reports, line_of, status_text}
+use Rattle.status_lines.specs.declared.statuses.Status.{Status}
+use Rattle.status_lines.specs.declared.statuses.Status.TheVariants.{Done, Words, Missing, Refused, Trap, Spent, ReadFault, WriteFault as WriteFailed, NoMemory, BadInput, TooLong, Undefined, TooMuch}
 
 appends_then : (a b c : Option (List ℕ)) (x y : List ℕ) → Appends a b x → Appends b c y → Appends a c (x ++ y)
 appends_then None b c x y h k = tt
@@ -45,6 +47,26 @@ unchanged (Some w) = ap Some (sym (append-nil w))
 -- nothing is reported where all was done
 pub not_reported : (a b : Option (List ℕ)) (faults faults' : ℕ) → b ≡ a → Reports a b [] faults faults'
 not_reported a b faults faults' e = inl (subst (λ c. Appends a c []) (sym e) (unchanged a))
+
+-- the line of each other status
+line_written : (status : Status) → (status ≡ Done → ⊥) → line_of status ≡ codes "strymonas: " ++ status_text status ++ codes "\n"
+line_written Done other = absurd (other refl)
+line_written Words other = refl
+line_written (Missing n) other = refl
+line_written (Refused r) other = refl
+line_written Trap other = refl
+line_written (Spent n) other = refl
+line_written (ReadFault n) other = refl
+line_written WriteFailed other = refl
+line_written NoMemory other = refl
+line_written (BadInput n f) other = refl
+line_written (TooLong n) other = refl
+line_written Undefined other = refl
+line_written TooMuch other = refl
+
+pub line_reported : (status : Status) (a b : Option (List ℕ)) (faults faults' : ℕ) (r : Result (Unit {0}) WriteFault) → (status ≡ Done → ⊥) → PutsAll a b (codes "strymonas: " ++ status_text status ++ codes "\n") r → WriteHasCause faults faults' r → Reports a b (line_of status) faults faults'
+line_reported status a b faults faults' r other h k =
+    subst (λ line. Reports a b line faults faults') (sym (line_written status other)) (reported a b _ faults faults' r h k)
 
 pub ruleset puts = (puts_cut, puts_then)
 

@@ -1,1 +1,3 @@
+pub mod FaultStatuses
+pub mod FaultTexts
 pub mod StatusLines

@@ -3,53 +3,51 @@ use Rattle.std.specs.Prelude.{ℕ, List, [], ◌++◌, ◌⊎◌, Option, codes,
 use Rattle.strm_io.specs.Counts.{Rose}
 use Rattle.strm_io.specs.Writing.{Appends}
 use Rattle.strm_io.specs.Appending.{AppendsPrefix}
-use Rattle.status_lines.specs.declared.refusals.Refusal.{Refusal}
-use Rattle.status_lines.specs.declared.refusals.RefusalKind.{RefusalKind}
-use Rattle.status_lines.specs.declared.refusals.RefusalKind.TheVariants.{NotUtf8, BadChar, NumberTooLarge, Syntax, TooDeep, TooManyInputs, TooManyOps, TooManyNodes, Unknown, Twice, Mismatch, WidthMismatch, TooWide, DivisionInOpening, NotArray}
+use Rattle.status_lines.specs.FaultTexts.{refusal_text, input_fault_text}
+use Rattle.status_lines.specs.declared.statuses.InputName.{InputName}
+use Rattle.status_lines.specs.declared.statuses.InputName.TheVariants.{Named, Position}
 use Rattle.status_lines.specs.declared.statuses.Status.{Status}
-use Rattle.status_lines.specs.declared.statuses.Status.TheVariants.{Done, Words, Missing, Refused, ReadFault, WriteFault, NoMemory, TooLong}
+use Rattle.status_lines.specs.declared.statuses.Status.TheVariants.{Done, Words, Missing, Refused, Trap, Spent, ReadFault, WriteFault, NoMemory, BadInput, TooLong, Undefined, TooMuch}
 
 abbrev pub code_of : Status → ℕ
 code_of Done = 0
 code_of Words = 1
-code_of Missing = 2
+code_of (Missing name) = 2
 code_of (Refused r) = 3
-code_of ReadFault = 6
+code_of Trap = 4
+code_of (Spent n) = 5
+code_of (ReadFault name) = 6
 code_of WriteFault = 7
 code_of NoMemory = 8
-code_of TooLong = 10
+code_of (BadInput name fault) = 9
+code_of (TooLong name) = 10
+code_of Undefined = 11
+code_of TooMuch = 12
 
-abbrev pub kind_text : RefusalKind → List ℕ
-kind_text NotUtf8 = codes "NotUtf8"
-kind_text BadChar = codes "BadChar"
-kind_text NumberTooLarge = codes "NumberTooLarge"
-kind_text Syntax = codes "Syntax"
-kind_text TooDeep = codes "TooDeep"
-kind_text TooManyInputs = codes "TooManyInputs"
-kind_text TooManyOps = codes "TooManyOps"
-kind_text TooManyNodes = codes "TooManyNodes"
-kind_text Unknown = codes "Unknown"
-kind_text Twice = codes "Twice"
-kind_text Mismatch = codes "Mismatch"
-kind_text WidthMismatch = codes "WidthMismatch"
-kind_text TooWide = codes "TooWide"
-kind_text DivisionInOpening = codes "DivisionInOpening"
-kind_text NotArray = codes "NotArray"
+abbrev pub input_text : InputName → List ℕ
+input_text (Named name) = name
+input_text (Position k) = decimal k
 
--- the kind and the place
-abbrev pub refusal_text : Refusal → List ℕ
-refusal_text r = kind_text r.kind ++ codes " at " ++ decimal r.at
+-- what stands in the line behind the program's name; nothing where all was done
+abbrev pub status_text : Status → List ℕ
+status_text Done = []
+status_text Words = codes "words"
+status_text (Missing name) = codes "missing: " ++ name
+status_text (Refused r) = codes "refused: " ++ refusal_text r
+status_text Trap = codes "trap"
+status_text (Spent n) = codes "spent: " ++ decimal n
+status_text (ReadFault name) = codes "read fault: " ++ name
+status_text WriteFault = codes "write fault"
+status_text NoMemory = codes "no memory"
+status_text (BadInput name fault) = codes "bad input: " ++ input_text name ++ codes ": " ++ input_fault_text fault
+status_text (TooLong name) = codes "too long: " ++ name
+status_text Undefined = codes "undefined"
+status_text TooMuch = codes "too much"
 
--- the line for a status, where the file has this name; none where all was done
-abbrev pub line_of : Status → List ℕ → List ℕ
-line_of Done name = []
-line_of Words name = codes "strymonas: words\n"
-line_of Missing name = codes "strymonas: missing: " ++ name ++ codes "\n"
-line_of (Refused r) name = codes "strymonas: refused: " ++ refusal_text r ++ codes "\n"
-line_of ReadFault name = codes "strymonas: read fault: " ++ name ++ codes "\n"
-line_of WriteFault name = codes "strymonas: write fault\n"
-line_of NoMemory name = codes "strymonas: no memory\n"
-line_of TooLong name = codes "strymonas: too long: " ++ name ++ codes "\n"
+-- the line for a status; none where all was done
+abbrev pub line_of : Status → List ℕ
+line_of Done = []
+line_of status = codes "strymonas: " ++ status_text status ++ codes "\n"
 
 -- a text is written whole, or a prefix of it where the faults rose
 abbrev pub Reports : Option (List ℕ) → Option (List ℕ) → List ℕ → ℕ → ℕ → Type 0

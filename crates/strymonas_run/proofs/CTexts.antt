@@ -8,7 +8,7 @@ use Rattle.loop_ir.specs.Statements.{Routine}
 use Rattle.loop_ir.specs.WellFormed.{IsWellFormed}
 use Rattle.loop_emit.specs.Headline.{IsEmitted}
 use Rattle.c_grammar.specs.Reading.{Reads}
-use Rattle.strymonas_run.specs.Jobs.{IsTextOf}
+use Rattle.job_steps.specs.Works.{IsTextOf}
 
 pub text_of : {E : Type 0} (p : Pipeline) (q : Routine) (printed : Result (Vec ℕ) E) → IsWellFormed q → IsEmitted p q → IfOk printed (λ c. c.items ≡ layout q) → IfOk printed (λ c. Reads c.items q) → IfOk printed (λ c. (other : Routine) → Reads c.items other → other ≡ q) → IfOk printed (λ c. IsTextOf p c.items)
 text_of p q (Ok c) well_formed emitted text reads only =

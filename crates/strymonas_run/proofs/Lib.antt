@@ -1,6 +1,6 @@
-pub mod ReadingSteps
-pub mod OneOutcome
-pub mod JobOutputs
-pub mod StatusConditions
-pub mod EachRefusal
 pub mod CTexts
+pub mod DoneWork
+pub mod InputNames
+pub mod JobAnswers
+pub mod StatusConditions
+pub mod WordsBehind

@@ -1,135 +1,101 @@
--- When each status comes, from what each status says.
-use Rattle.std.proofs.Common.{◌≡◌, inl, inr, ℕ, ◌<◌, ◌≤◌, List, length, Option, Some, None, Ok, Err, refl, sym, ap, subst, arith}
-use Rattle.std.specs.Prelude.{IsSomeAnd}
-use Rattle.strm_io.specs.Counts.{Rose}
-use Rattle.strm_io.specs.Store.{Store, held}
-use Rattle.list_denotation.specs.Terms.{Pipeline}
-use Rattle.pipe_limits.specs.declared.TheConstants.{MOST_BYTES}
-use Rattle.strymonas_run.specs.declared.commands.Job.{Job}
-use Rattle.status_lines.specs.declared.refusals.Refusal.{Refusal}
+-- When a status comes, from what each status says.
+use Rattle.std.proofs.Common.{◌≡◌, inl, inr, ℕ, List, Option, Some, None, Result, Ok, Err, refl, sym, subst}
+use Rattle.std.specs.Prelude.{◌⊎◌}
+use Rattle.command_words.specs.Commands.{job_of}
+use Rattle.job_steps.specs.Answers.{Answers, AnswersSteps, ComesOfFailing, ComesOfWork, IsCutShort, IsOneUnlessUnread, IsUnread}
+use Rattle.job_steps.specs.Jobs.{Prepares}
+use Rattle.job_steps.specs.Works.{Work, Ends}
+use Rattle.strm_io.specs.Store.{Store}
 use Rattle.status_lines.specs.declared.statuses.Status.{Status}
-use Rattle.status_lines.specs.declared.statuses.Status.TheVariants.{Done, Words, Missing, Refused, ReadFault, WriteFault, NoMemory, TooLong}
-use Rattle.strymonas_run.specs.PipelineFile.{IsPipelineFile}
-use Rattle.strymonas_run.specs.Refusals.{IsRefused}
-use Rattle.strymonas_run.specs.Jobs.{IsOutputOf, Answers, HasCause, ComesWhere, IsMissingFile, IsTooLongFile, IsNoPipeline, IsRefusedFile, IsRefusal, IsComplete}
+use Rattle.status_lines.specs.declared.statuses.Status.TheVariants.{Words, ReadFault, WriteFault, NoMemory}
 
--- what is held under a name and passes is what is known to be held
-same_file : (file : Option (List ℕ)) (src : List ℕ) (fact : List ℕ → Type 0) → file ≡ Some src → IsSomeAnd file fact → fact src
-same_file None src fact e h = absurd cc
-same_file (Some bytes) src fact e h = let same : bytes ≡ src = cc in subst fact same h
+-- the work ends with the status, or the device failed
+abbrev IsOfWork : Work → Status → Type 0
+IsOfWork work s = ((text : List ℕ) × Ends work s text) ⊎ (s ≡ WriteFault)
 
-held_so : (file : Option (List ℕ)) (src : List ℕ) (fact : List ℕ → Type 0) → file ≡ Some src → fact src → IsSomeAnd file fact
-held_so None src fact e h = absurd cc
-held_so (Some bytes) src fact e h = let same : src ≡ bytes = cc in subst fact same h
+-- why a status is answered
+abbrev HasReason : (Result Work Status → Type 0) → Status → Type 0
+HasReason steps s = IsUnread s ⊎ (steps (Err s) ⊎ ((work : Work) × (steps (Ok work) × IsOfWork work s)))
 
-is_some : (file : Option (List ℕ)) (fact : List ℕ → Type 0) → file ≡ None → IsSomeAnd file fact → ⊥
-is_some None fact e h = h
-is_some (Some bytes) fact e h = cc
+reason : (steps : Result Work Status → Type 0) (out out' : Option (List ℕ)) (s : Status) → AnswersSteps steps out out' s → HasReason steps s
+reason steps out out' NoMemory h = inl tt
+reason steps out out' WriteFault h = inr (inr (h.work, (h.passes, inr refl)))
+reason steps out out' s (inl h) = inr (inl h.0)
+reason steps out out' s (inr h) =
+    inr (inr (h.work, (h.passes, inl (h.text, subst (λ (t : Status). Ends h.work t h.text) h.holds_of_it.0 h.ends))))
 
-pub missing_condition : (asked : Option Job) (store : Option Store) (name : List ℕ) (out out' : Option (List ℕ)) (s : Status) → Answers asked store name out out' s → ComesWhere asked store name IsMissingFile (λ status. status ≡ Missing) s
-missing_condition None store name out out' s h = tt
-missing_condition (Some job) None name out out' s h = tt
-missing_condition (Some job) (Some store) name out out' Done h =
-    ((λ e. absurd cc), (λ none. let held = h.holds in absurd cc))
-missing_condition (Some job) (Some store) name out out' WriteFault h =
-    ((λ e. absurd cc), (λ none. let held = h.holds in absurd cc))
-missing_condition (Some job) (Some store) name out out' Missing h = ((λ e. h.0), (λ none. inl refl))
-missing_condition (Some job) (Some store) name out out' TooLong h =
-    ((λ e. absurd cc), (λ none. absurd (is_some (held store name) (λ src. MOST_BYTES < length src) none h.0)))
-missing_condition (Some job) (Some store) name out out' (Refused r) h =
-    ((λ e. absurd cc), (λ none. let held = h.0.holds in absurd cc))
-missing_condition (Some job) (Some store) name out out' ReadFault h = ((λ e. absurd cc), (λ none. inr (inl refl)))
-missing_condition (Some job) (Some store) name out out' NoMemory h = ((λ e. absurd cc), (λ none. inr (inr refl)))
-missing_condition (Some job) (Some store) name out out' Words h = absurd h
+-- ---- a step fails
 
-pub too_long_condition : (asked : Option Job) (store : Option Store) (name : List ℕ) (out out' : Option (List ℕ)) (s : Status) → Answers asked store name out out' s → ComesWhere asked store name IsTooLongFile (λ status. status ≡ TooLong) s
-too_long_condition None store name out out' s h = tt
-too_long_condition (Some job) None name out out' s h = tt
-too_long_condition (Some job) (Some store) name out out' Done h =
-    ((λ e. absurd cc), (λ long. absurd (let l = same_file (held store name) h.src (λ src. MOST_BYTES < length src) h.holds long in omega (arith, l, h.output.outcome.has.within))))
-too_long_condition (Some job) (Some store) name out out' WriteFault h =
-    ((λ e. absurd cc), (λ long. absurd (let l = same_file (held store name) h.src (λ src. MOST_BYTES < length src) h.holds long in omega (arith, l, h.output.outcome.has.within))))
-too_long_condition (Some job) (Some store) name out out' Missing h =
-    ((λ e. absurd cc), (λ long. absurd (is_some (held store name) (λ src. MOST_BYTES < length src) h.0 long)))
-too_long_condition (Some job) (Some store) name out out' TooLong h = ((λ e. h.0), (λ long. inl refl))
-too_long_condition (Some job) (Some store) name out out' (Refused r) h =
-    ((λ e. absurd cc), (λ long. absurd (let l = same_file (held store name) h.0.src (λ src. MOST_BYTES < length src) h.0.holds long in omega (arith, l, h.0.within))))
-too_long_condition (Some job) (Some store) name out out' ReadFault h = ((λ e. absurd cc), (λ long. inr (inl refl)))
-too_long_condition (Some job) (Some store) name out out' NoMemory h = ((λ e. absurd cc), (λ long. inr (inr refl)))
-too_long_condition (Some job) (Some store) name out out' Words h = absurd h
+unread_failing : (failed s : Status) → IsUnread s → ComesOfFailing failed s
+unread_failing (ReadFault name) s h = tt
+unread_failing failed s h = inr h
 
--- no pipeline, and not too long
-abbrev NoPipeline : List ℕ → Type 0
-NoPipeline src = (p : Pipeline) → IsPipelineFile src p → ⊥
+same_failing : (failed s : Status) → IsOneUnlessUnread (Err failed) (Err s) → ComesOfFailing failed s
+same_failing (ReadFault name) s h = tt
+same_failing failed (ReadFault name) h = inr tt
+same_failing failed s h = inl cc
 
-abbrev NoPipelineWithin : List ℕ → Type 0
-NoPipelineWithin src = (length src ≤ MOST_BYTES) × NoPipeline src
+work_failing : (failed : Status) (work : Work) (s : Status) → IsOneUnlessUnread (Err failed) (Ok work) → ComesOfFailing failed s
+work_failing (ReadFault name) work s h = tt
+work_failing failed work s h = absurd cc
 
-abbrev RefusedWithin : Refusal → List ℕ → Type 0
-RefusedWithin r src = (length src ≤ MOST_BYTES) × IsRefused src r
+-- ---- all steps pass
 
--- a file that is too long isn't also one that is not
-both_lengths : (file : Option (List ℕ)) (fact : List ℕ → Type 0) → IsSomeAnd file (λ src. MOST_BYTES < length src) → IsSomeAnd file (λ src. (length src ≤ MOST_BYTES) × fact src) → ⊥
-both_lengths None fact long short = long
-both_lengths (Some src) fact long short = omega (arith, long, short.0)
+unread_working : (work : Work) (s : Status) → IsUnread s → ComesOfWork work s
+unread_working work NoMemory h = inr tt
+unread_working work (ReadFault name) h = inr tt
+unread_working work s h = absurd h
 
-pub refused_condition : (asked : Option Job) (store : Option Store) (name : List ℕ) (out out' : Option (List ℕ)) (s : Status) → Answers asked store name out out' s → ComesWhere asked store name IsNoPipeline IsRefusal s
-refused_condition None store name out out' s h = tt
-refused_condition (Some job) None name out out' s h = tt
-refused_condition (Some job) (Some store) name out out' Done h =
-    ((λ e. absurd (cc e.1)), (λ none. absurd ((same_file (held store name) h.src NoPipelineWithin h.holds none).1 h.output.pipeline h.output.outcome.has)))
-refused_condition (Some job) (Some store) name out out' WriteFault h =
-    ((λ e. absurd (cc e.1)), (λ none. absurd ((same_file (held store name) h.src NoPipelineWithin h.holds none).1 h.output.pipeline h.output.outcome.has)))
-refused_condition (Some job) (Some store) name out out' Missing h =
-    ((λ e. absurd (cc e.1)), (λ none. absurd (is_some (held store name) NoPipelineWithin h.0 none)))
-refused_condition (Some job) (Some store) name out out' TooLong h =
-    ((λ e. absurd (cc e.1)), (λ none. absurd (both_lengths (held store name) NoPipeline h.0 none)))
-refused_condition (Some job) (Some store) name out out' (Refused r) h =
-    ((λ e. held_so (held store name) h.0.src NoPipelineWithin h.0.holds (h.0.within, h.0.refuses.no_pipeline)), (λ none. inl (r, refl)))
-refused_condition (Some job) (Some store) name out out' ReadFault h = ((λ e. absurd (cc e.1)), (λ none. inr (inl refl)))
-refused_condition (Some job) (Some store) name out out' NoMemory h = ((λ e. absurd (cc e.1)), (λ none. inr (inr refl)))
-refused_condition (Some job) (Some store) name out out' Words h = absurd h
+failed_working : (work : Work) (s : Status) → IsOneUnlessUnread (Ok work) (Err s) → ComesOfWork work s
+failed_working work (ReadFault name) h = inr tt
+failed_working work s h = absurd cc
 
--- that for which the job is done isn't refused
-not_refused : (job : Job) (src c : List ℕ) (r : Refusal) → IsOutputOf job src c → IsRefused src r → ⊥
-not_refused job src c r h is = let e : Err r ≡ Ok h.pipeline = h.outcome.only (Err r) is in absurd cc
+same_working : (work other : Work) (s : Status) → other ≡ work → IsOfWork other s → ComesOfWork work s
+same_working work other s e (inl h) = inl (h.0, subst (λ (w : Work). Ends w s h.0) e h.1)
+same_working work other s e (inr h) = inr (subst IsCutShort (sym h) tt)
 
-pub reason_condition : (asked : Option Job) (store : Option Store) (name : List ℕ) (out out' : Option (List ℕ)) (s : Status) → Answers asked store name out out' s → (r : Refusal) → ComesWhere asked store name (IsRefusedFile r) (λ status. status ≡ Refused r) s
-reason_condition None store name out out' s h r = tt
-reason_condition (Some job) None name out out' s h r = tt
-reason_condition (Some job) (Some store) name out out' Done h r =
-    ((λ e. absurd cc), (λ is. absurd (not_refused job h.src h.c r h.output (same_file (held store name) h.src (RefusedWithin r) h.holds is).1)))
-reason_condition (Some job) (Some store) name out out' WriteFault h r =
-    ((λ e. absurd cc), (λ is. absurd (not_refused job h.src h.c r h.output (same_file (held store name) h.src (RefusedWithin r) h.holds is).1)))
-reason_condition (Some job) (Some store) name out out' Missing h r =
-    ((λ e. absurd cc), (λ is. absurd (is_some (held store name) (RefusedWithin r) h.0 is)))
-reason_condition (Some job) (Some store) name out out' TooLong h r =
-    ((λ e. absurd cc), (λ is. absurd (both_lengths (held store name) (λ src. IsRefused src r) h.0 is)))
-reason_condition (Some job) (Some store) name out out' (Refused other) h r = (
-  (λ e. let o : other ≡ r = cc in held_so (held store name) h.0.src (RefusedWithin r) h.0.holds (h.0.within, subst (IsRefused h.0.src) o h.0.refuses.reason)),
-  (λ is. inl (ap (λ (q : Refusal). Refused q) (sym (h.0.refuses.only r (same_file (held store name) h.0.src (RefusedWithin r) h.0.holds is).1)))),
-)
-reason_condition (Some job) (Some store) name out out' ReadFault h r = ((λ e. absurd cc), (λ is. inr (inl refl)))
-reason_condition (Some job) (Some store) name out out' NoMemory h r = ((λ e. absurd cc), (λ is. inr (inr refl)))
-reason_condition (Some job) (Some store) name out out' Words h r = absurd h
+one_work : (work other : Work) → IsOneUnlessUnread (Ok work) (Ok other) → other ≡ work
+one_work work other h = cc
 
-pub is_complete : (asked : Option Job) (store : Option Store) (name : List ℕ) (out out' : Option (List ℕ)) (misses misses' faults faults' out_faults out_faults' : ℕ) (s : Status) → Answers asked store name out out' s → HasCause misses misses' faults faults' out_faults out_faults' s → IsComplete asked store name (Rose faults faults') (Rose out_faults out_faults') s
-is_complete None store name out out' m m' f f' o o' s h cause = tt
-is_complete (Some job) None name out out' m m' f f' o o' s h cause = tt
-is_complete (Some job) (Some store) name out out' m m' f f' o o' Done h cause = λ p is read write. inl refl
-is_complete (Some job) (Some store) name out out' m m' f f' o o' WriteFault h cause = λ p is read write. absurd (write cause)
-is_complete (Some job) (Some store) name out out' m m' f f' o o' Missing h cause = λ p is read write.
-    absurd (is_some (held store name) (λ src. IsPipelineFile src p) h.0 is)
-is_complete (Some job) (Some store) name out out' m m' f f' o o' TooLong h cause = λ p is read write.
-    absurd (too_long_file (held store name) p h.0 is)
-  where
-    too_long_file : (file : Option (List ℕ)) (p : Pipeline) → IsSomeAnd file (λ src. MOST_BYTES < length src) → IsSomeAnd file (λ src. IsPipelineFile src p) → ⊥
-    too_long_file None p long is = long
-    too_long_file (Some src) p long is = omega (arith, long, is.within)
-is_complete (Some job) (Some store) name out out' m m' f f' o o' (Refused r) h cause = λ p is read write.
-    absurd (h.0.refuses.no_pipeline p (same_file (held store name) h.0.src (λ src. IsPipelineFile src p) h.0.holds is))
-is_complete (Some job) (Some store) name out out' m m' f f' o o' ReadFault h cause = λ p is read write. absurd (read cause)
-is_complete (Some job) (Some store) name out out' m m' f f' o o' NoMemory h cause = λ p is read write. inr refl
-is_complete (Some job) (Some store) name out out' m m' f f' o o' Words h cause = absurd h
+-- ---- over a store that tells
 
-pub ruleset conditions = (missing_condition, too_long_condition, refused_condition, reason_condition, is_complete)
+abbrev OneComes : Type 0
+OneComes = (store : Store) (words : List (List ℕ)) (a b : Result Work Status) → Prepares (Some store) words a → Prepares (Some store) words b → IsOneUnlessUnread a b
+
+module _ (one : OneComes) (store : Store) (words : List (List ℕ)) where
+  failing_by : (failed s : Status) → Prepares (Some store) words (Err failed) → HasReason (Prepares (Some store) words) s → ComesOfFailing failed s
+  failing_by failed s h (inl unread) = unread_failing failed s unread
+  failing_by failed s h (inr (inl k)) = same_failing failed s (one store words (Err failed) (Err s) h k)
+  failing_by failed s h (inr (inr k)) = work_failing failed k.0 s (one store words (Err failed) (Ok k.0) h k.1.0)
+
+  working_by : (work : Work) (s : Status) → Prepares (Some store) words (Ok work) → HasReason (Prepares (Some store) words) s → ComesOfWork work s
+  working_by work s h (inl unread) = unread_working work s unread
+  working_by work s h (inr (inl k)) = failed_working work s (one store words (Ok work) (Err s) h k)
+  working_by work s h (inr (inr k)) = same_working work k.0 s (one_work work k.0 (one store words (Ok work) (Ok k.0) h k.1.0)) k.1.1
+
+  module _ (holds : Option Store) (told : holds ≡ Some store) (out out' : Option (List ℕ)) (s : Status) (answers : Answers holds words out out' s) where
+    reason_told : HasReason (Prepares (Some store) words) s
+    reason_told = reason (Prepares (Some store) words) out out' s (subst (λ (h : Option Store). Answers h words out out' s) told answers)
+
+    pub comes_of_failing : (failed : Status) → Prepares (Some store) words (Err failed) → ComesOfFailing failed s
+    comes_of_failing failed h = failing_by failed s h reason_told
+
+    pub comes_of_work : (work : Work) → Prepares (Some store) words (Ok work) → ComesOfWork work s
+    comes_of_work work h = working_by work s h reason_told
+
+-- ---- words that are no command
+
+abbrev FailsSo : Type 0
+FailsSo = (store : Option Store) (words : List (List ℕ)) → Prepares store words (Err Words) → job_of words ≡ None
+
+abbrev EndsSo : Type 0
+EndsSo = (work : Work) (text : List ℕ) → Ends work Words text → ⊥
+
+as_words : FailsSo → EndsSo → (store : Option Store) (words : List (List ℕ)) (out out' : Option (List ℕ)) → Answers store words out out' Words → job_of words ≡ None
+as_words fails ends store words out out' (inl h) = fails store words h.0
+as_words fails ends store words out out' (inr h) =
+    absurd (ends h.work h.text (subst (λ (t : Status). Ends h.work t h.text) h.holds_of_it.0 h.ends))
+
+pub words_only : FailsSo → EndsSo → (store : Option Store) (words : List (List ℕ)) (out out' : Option (List ℕ)) (s : Status) → Answers store words out out' s → s ≡ Words → job_of words ≡ None
+words_only fails ends store words out out' s h e =
+    as_words fails ends store words out out' (subst (λ (t : Status). Answers store words out out' t) e h)

@@ -1,5 +1,2 @@
-pub mod PipelineFile
-pub mod Refusals
-pub mod ReadOutcomes
-pub mod Commands
-pub mod Jobs
+pub mod Working
+pub mod Ways

@@ -1,8 +1,10 @@
+//! From pipelines to loop programs and C texts.
+
 ghost use Rattle.std.specs.Prelude.{IfOk};
 ghost use Rattle.list_denotation.specs.Pipelines.{pipeline_of};
 ghost use Rattle.loop_emit.specs.Headline.{IsEmitted};
 ghost use Rattle.loop_ir.specs.Routines.{routine_of};
-ghost use Rattle.strymonas_run.specs.Jobs.{IsTextOf};
+ghost use Rattle.job_steps.specs.Works.{IsTextOf};
 
 use c_printer::print_c;
 use list_denotation::Program;
@@ -12,18 +14,19 @@ use stateful_core::core_of;
 use std::alloc::Global;
 use strm_num::NoMemory;
 
-/// The C text of a pipeline. The one error is `NoMemory`, where memory is refused.
+/// The loop program of a pipeline, by way of its core term. The one error is `NoMemory`, where memory is
+/// refused.
+pub fn routine_of(alloc: Global, program: &Program) -> Result<Box<Prog>, NoMemory>
+    ensures { IfOk result (λ q. IsEmitted (pipeline_of program.now) (routine_of q.value)) }
+{
+    let core = Box::new(alloc, core_of(alloc, program)?)?;
+    Ok(Box::new(alloc, emit(alloc, program, &core)?)?)
+}
+
+/// The C text of a pipeline. The one error is `NoMemory`.
 pub fn c_text(alloc: Global, program: &Program) -> Result<Vec<u8>, NoMemory>
     ensures { IfOk result (λ c. IsTextOf (pipeline_of program.now) c.items) }
 {
     let routine = routine_of(alloc, program)?;
     print_c(alloc, &routine)
-}
-
-/// The loop program of a pipeline, by way of its core term.
-fn routine_of(alloc: Global, program: &Program) -> Result<Box<Prog>, NoMemory>
-    ensures { IfOk result (λ q. IsEmitted (pipeline_of program.now) (routine_of q.value)) }
-{
-    let core = Box::new(alloc, core_of(alloc, program)?)?;
-    Ok(Box::new(alloc, emit(alloc, program, &core)?)?)
 }

@@ -1,82 +1,243 @@
-//! What each command does with a file.
+//! What each command does: its steps, and then its work.
 
-ghost use Rattle.std.specs.Prelude.{◌≡◌, ◌≤◌, length, IfOk};
-ghost use Rattle.list_denotation.specs.Pipelines.{pipeline_of};
-ghost use Rattle.strymonas_run.specs.Jobs.{AnswersFile, HasCause, MakesText, Writes};
-ghost use Rattle.strymonas_run.specs.Jobs.{WritesSource};
+ghost use Rattle.std.specs.Prelude.{◌≡◌, ◌≤◌, Some, Ok, drop};
+ghost use Rattle.command_words.specs.Commands.{file_of, texts_of};
+ghost use Rattle.job_files.specs.Sources.{named_of};
+ghost use Rattle.job_steps.specs.Answers.{AnswersSteps, HasCause};
+ghost use Rattle.job_steps.specs.CTexts.{LoadsC};
+ghost use Rattle.job_steps.specs.Inputs.{BindsInputs, PlacesInputs};
+ghost use Rattle.job_steps.specs.Jobs.{PreparesJob};
+ghost use Rattle.job_steps.specs.Pipelines.{LoadsPipeline};
+ghost use Rattle.job_steps.specs.Steps.{Is, Then};
+ghost use Rattle.job_steps.specs.Works.{Counting, Compiling, Executing};
+ghost use Rattle.loop_ir.specs.Routines.{routine_of};
+ghost use Rattle.strymonas_run.specs.Ways.{work_of};
 
-use crate::commands::Job;
-use crate::compiling::c_text;
-use crate::reading::read_pipeline;
-use crate::text_faults::TextFault;
-use count_lines::counts_text;
-use list_denotation::Program;
-use pipe_limits::MOST_BYTES;
+use crate::working::{Way, compile, count, execute, show};
+use command_words::Job;
+use job_files::{Source, loaded_c, loaded_pipeline};
+use job_inputs::{bound_inputs, placed_inputs};
+use loop_ir::Prog;
 use status_lines::Status;
 use std::alloc::Global;
-use strm_io::{Files, LoadFault, Sink, load, put_all};
-use strm_num::NoMemory;
+use strm_io::{Files, Sink};
 
-/// Does the job for the pipeline in the named file, and writes what it gives.
-pub fn do_job<F: Files, O: Sink>(
-    alloc: Global,
-    job: Job,
-    name: &str,
-    files: &mut F,
-    out: &mut O,
-) -> Status
-    ensures answers { AnswersFile job (F.holds files.old) name.now
+/// The file that the words name, and nothing where they name none.
+fn file_in(words: &[String]) -> &str
+    ensures { result.now ≡ file_of (texts_of words.now) }
+{
+    match words {
+        [_, file, ..] => file.as_str(),
+        _ => "",
+    }
+}
+
+/// The words from a number on.
+fn behind(words: &[String], rest: u64) -> &[String]
+    ensures { texts_of result.now ≡ drop rest (texts_of words.now) }
+{
+    let from = rest as usize;
+    if from <= words.len() {
+        &words[from..]
+    } else {
+        &[]
+    }
+}
+
+/// Writes the counts of the pipeline in a file.
+#[tactic(auto, using(crate::proofs::JobAnswers::causes))]
+fn check_file<F: Files, O: Sink>(alloc: Global, name: &str, files: &mut F, out: &mut O) -> Status
+    ensures answers { AnswersSteps
+        (Then (LoadsPipeline (F.holds files.old) name.now) (λ s. Is (Ok (Counting s.pipeline))))
         (O.written out.old) (O.written out.new) result }
     ensures cause { HasCause (F.misses files.old) (F.misses files.new)
         (F.faults files.old) (F.faults files.new) (O.faults out.old) (O.faults out.new) result }
-
     ensures holds { F.holds files.new ≡ F.holds files.old }
     ensures misses { F.misses files.old ≤ F.misses files.new }
     ensures read_faults { F.faults files.old ≤ F.faults files.new }
     ensures write_faults { O.faults out.old ≤ O.faults out.new }
 {
-    match load(alloc, files, name, MOST_BYTES) {
-        Ok(src) => write_text(alloc, job, src.as_slice(), out),
-        Err(LoadFault::Missing) => Status::Missing,
-        Err(LoadFault::TooLong) => Status::TooLong,
-        Err(LoadFault::Read) => Status::ReadFault,
-        Err(LoadFault::NoMemory) => Status::NoMemory,
+    match loaded_pipeline(alloc, files, name) {
+        Ok(source) => count(alloc, &source.program, out),
+        Err(status) => status,
     }
 }
 
-// Writes what the job gives for a pipeline text.
-fn write_text<O: Sink>(alloc: Global, job: Job, src: &[u8], out: &mut O) -> Status
-    requires { length src.now ≤ MOST_BYTES }
-    ensures answers { WritesSource job src.now (O.written out.old) (O.written out.new)
-        (O.faults out.old) (O.faults out.new) result }
-    ensures faults { O.faults out.old ≤ O.faults out.new }
+/// Writes the C text of the pipeline in a file.
+#[tactic(auto, using(crate::proofs::JobAnswers::causes))]
+fn compile_file<F: Files, O: Sink>(alloc: Global, name: &str, files: &mut F, out: &mut O) -> Status
+    ensures answers { AnswersSteps
+        (Then (LoadsPipeline (F.holds files.old) name.now) (λ s. Is (Ok (Compiling s.pipeline))))
+        (O.written out.old) (O.written out.new) result }
+    ensures cause { HasCause (F.misses files.old) (F.misses files.new)
+        (F.faults files.old) (F.faults files.new) (O.faults out.old) (O.faults out.new) result }
+    ensures holds { F.holds files.new ≡ F.holds files.old }
+    ensures misses { F.misses files.old ≤ F.misses files.new }
+    ensures read_faults { F.faults files.old ≤ F.faults files.new }
+    ensures write_faults { O.faults out.old ≤ O.faults out.new }
 {
-    match text_of_source(alloc, job, src) {
-        Ok(text) => match put_all(out, text.as_slice()) {
-            Ok(()) => Status::Done,
-            Err(_) => Status::WriteFault,
-        },
-        Err(TextFault::Refused(refusal)) => Status::Refused(refusal),
-        Err(TextFault::NoMemory) => Status::NoMemory,
+    match loaded_pipeline(alloc, files, name) {
+        Ok(source) => compile(alloc, &source.program, out),
+        Err(status) => status,
     }
 }
 
-// What the job gives for a pipeline text, or why there is nothing.
-fn text_of_source(alloc: Global, job: Job, src: &[u8]) -> Result<Vec<u8>, TextFault>
-    requires { length src.now ≤ MOST_BYTES }
-    ensures { MakesText job src.now result }
+/// Writes what a pipeline shows on the inputs that words bind.
+#[tactic(auto, using(crate::proofs::JobAnswers::causes))]
+fn show_source<F: Files, O: Sink>(
+    alloc: Global,
+    way: Way,
+    source: &Source,
+    words: &[String],
+    files: &mut F,
+    out: &mut O,
+) -> Status
+    ensures answers { AnswersSteps
+        (Then (BindsInputs (F.holds files.old) (texts_of words.now) (named_of source.now).names
+        source.now.program.inputs)
+        (λ inputs. Is (Ok (work_of way (named_of source.now).pipeline inputs))))
+        (O.written out.old) (O.written out.new) result }
+    ensures cause { HasCause (F.misses files.old) (F.misses files.new)
+        (F.faults files.old) (F.faults files.new) (O.faults out.old) (O.faults out.new) result }
+    ensures holds { F.holds files.new ≡ F.holds files.old }
+    ensures misses { F.misses files.old ≤ F.misses files.new }
+    ensures read_faults { F.faults files.old ≤ F.faults files.new }
+    ensures write_faults { O.faults out.old ≤ O.faults out.new }
 {
-    let program = read_pipeline(alloc, src)?;
-    let text = text_of_pipeline(alloc, job, &program)?;
-    Ok(text)
+    let names = source.tree.inputs.as_slice();
+    match bound_inputs(alloc, files, words, names, &source.program.inputs) {
+        Ok(inputs) => show(alloc, way, &source.program, &inputs, out),
+        Err(status) => status,
+    }
 }
 
-// What the job gives for a pipeline.
-fn text_of_pipeline(alloc: Global, job: Job, program: &Program) -> Result<Vec<u8>, NoMemory>
-    ensures { IfOk result (λ c. Writes job (pipeline_of program.now) c.items) }
+/// Writes what the pipeline in a file shows on the inputs that words bind.
+#[tactic(auto, using(crate::proofs::JobAnswers::causes))]
+fn show_file<F: Files, O: Sink>(
+    alloc: Global,
+    way: Way,
+    name: &str,
+    words: &[String],
+    files: &mut F,
+    out: &mut O,
+) -> Status
+    ensures answers { AnswersSteps
+        (Then (LoadsPipeline (F.holds files.old) name.now) (λ s.
+        Then (BindsInputs (F.holds files.old) (texts_of words.now) s.names s.pipeline.inputs)
+        (λ inputs. Is (Ok (work_of way s.pipeline inputs)))))
+        (O.written out.old) (O.written out.new) result }
+    ensures cause { HasCause (F.misses files.old) (F.misses files.new)
+        (F.faults files.old) (F.faults files.new) (O.faults out.old) (O.faults out.new) result }
+    ensures holds { F.holds files.new ≡ F.holds files.old }
+    ensures misses { F.misses files.old ≤ F.misses files.new }
+    ensures read_faults { F.faults files.old ≤ F.faults files.new }
+    ensures write_faults { O.faults out.old ≤ O.faults out.new }
 {
+    match loaded_pipeline(alloc, files, name) {
+        Ok(source) => show_source(alloc, way, &source, words, files, out),
+        Err(status) => status,
+    }
+}
+
+/// Runs a program of a C text on values in order, with so many turns of its loops.
+#[tactic(auto, using(crate::proofs::JobAnswers::causes))]
+fn execute_on<F: Files, O: Sink>(
+    alloc: Global,
+    turns: u64,
+    program: &Prog,
+    values: &[String],
+    files: &mut F,
+    out: &mut O,
+) -> Status
+    ensures answers { AnswersSteps
+        (Then (PlacesInputs (F.holds files.old) (texts_of values.now) program.now.params)
+        (λ inputs. Is (Ok (Executing (routine_of program.now) inputs turns))))
+        (O.written out.old) (O.written out.new) result }
+    ensures cause { HasCause (F.misses files.old) (F.misses files.new)
+        (F.faults files.old) (F.faults files.new) (O.faults out.old) (O.faults out.new) result }
+    ensures holds { F.holds files.new ≡ F.holds files.old }
+    ensures misses { F.misses files.old ≤ F.misses files.new }
+    ensures read_faults { F.faults files.old ≤ F.faults files.new }
+    ensures write_faults { O.faults out.old ≤ O.faults out.new }
+{
+    match placed_inputs(alloc, files, values, &program.params) {
+        Ok(inputs) => execute(alloc, program, &inputs, turns, out),
+        Err(status) => status,
+    }
+}
+
+/// Runs the program of the C text in a file on values in order, with so many turns of its loops.
+#[tactic(auto, using(crate::proofs::JobAnswers::causes))]
+fn execute_file<F: Files, O: Sink>(
+    alloc: Global,
+    turns: u64,
+    name: &str,
+    values: &[String],
+    files: &mut F,
+    out: &mut O,
+) -> Status
+    ensures answers { AnswersSteps
+        (Then (LoadsC (F.holds files.old) name.now) (λ q.
+        Then (PlacesInputs (F.holds files.old) (texts_of values.now) q.params)
+        (λ inputs. Is (Ok (Executing q inputs turns)))))
+        (O.written out.old) (O.written out.new) result }
+    ensures cause { HasCause (F.misses files.old) (F.misses files.new)
+        (F.faults files.old) (F.faults files.new) (O.faults out.old) (O.faults out.new) result }
+    ensures holds { F.holds files.new ≡ F.holds files.old }
+    ensures misses { F.misses files.old ≤ F.misses files.new }
+    ensures read_faults { F.faults files.old ≤ F.faults files.new }
+    ensures write_faults { O.faults out.old ≤ O.faults out.new }
+{
+    match loaded_c(alloc, files, name) {
+        Ok(program) => execute_on(alloc, turns, &program, values, files, out),
+        Err(status) => status,
+    }
+}
+
+/// Does what a job asks for, by the words that it was read from.
+pub fn do_job<F: Files, O: Sink>(
+    alloc: Global,
+    job: Job,
+    words: &[String],
+    files: &mut F,
+    out: &mut O,
+) -> Status
+    ensures answers { AnswersSteps
+        (PreparesJob (F.holds files.old) (texts_of words.now) (Some job))
+        (O.written out.old) (O.written out.new) result }
+    ensures cause { HasCause (F.misses files.old) (F.misses files.new)
+        (F.faults files.old) (F.faults files.new) (O.faults out.old) (O.faults out.new) result }
+    ensures holds { F.holds files.new ≡ F.holds files.old }
+    ensures misses { F.misses files.old ≤ F.misses files.new }
+    ensures read_faults { F.faults files.old ≤ F.faults files.new }
+    ensures write_faults { O.faults out.old ≤ O.faults out.new }
+{
+    let name = file_in(words);
     match job {
-        Job::Compile => c_text(alloc, program),
-        Job::Check => counts_text(alloc, program),
+        Job::Check => check_file(alloc, name, files, out),
+        Job::Compile => compile_file(alloc, name, files, out),
+        Job::Run { turns, rest } => {
+            show_file(
+                alloc,
+                Way::Loops(turns),
+                name,
+                behind(words, rest),
+                files,
+                out,
+            )
+        }
+        Job::Exec { turns, rest } => {
+            execute_file(alloc, turns, name, behind(words, rest), files, out)
+        }
+        Job::Model { pulls, rest } => {
+            show_file(
+                alloc,
+                Way::Lists(pulls),
+                name,
+                behind(words, rest),
+                files,
+                out,
+            )
+        }
     }
 }

@@ -1,27 +1,22 @@
-//! The program as a library: a pipeline's text goes in, and its C text comes out.
+//! The program as a library: words go in, files are read, and a text and a line come out.
 //!
-//! It depends on pipe_lexer, pipe_grammar and pipe_types for a text's tokens, its tree and its kinds,
-//! with pipe_tree, pipe_reader and kind_rules for what these are, on list_denotation for programs and
-//! what they mean, on loop_emit for the loop program of a pipeline, on c_printer and count_lines for
-//! what is written, on strm_io for devices, and on status_lines for the statuses and the line of each.
-//! `run_words` carries the promise. Unless memory is refused or a device fails, `check` writes the
-//! counts of each pipeline file, and `compile` the text of a loop program of it, which goes no further
-//! than the pipeline's lists, and as far as they do. Any other file is refused for the one reason that
-//! there is, with its offset. The laws are of the definitions alone.
+//! `run_words` carries the promise, by job_steps' definitions: `Prepares` of its `specs/Jobs` says what
+//! comes of the words over a store of files, work or the status of the first step that fails; `Ends` of its
+//! `specs/Works` with which status and text work ends. What was written is the whole of such a text, or a
+//! prefix of it where the device failed, and the status is the one that comes of the words, unless memory
+//! was refused or a device failed.
+//!
+//! It depends on command_words for words, on job_files and job_inputs for the files and the inputs that
+//! steps read, on stateful_core, loop_emit and c_printer for the way from a pipeline to loops and to their C
+//! text, on loop_interp for running these, on list_model for computing lists, on count_lines and
+//! event_texts for what is written, and on status_lines for the statuses and the line of each.
 #![tactic(auto)]
 
-mod commands;
 mod compiling;
 mod jobs;
-mod laws;
-mod reading;
 mod running;
-mod text_faults;
+mod working;
 
-pub use commands::{Job, read_words};
-pub use laws::{
-    each_file_has_its_refusal, files_are_one_pipeline, files_have_one_refusal,
-    pipelines_have_no_refusal,
-};
+pub use command_words::{Job, read_words};
 pub use running::run_words;
-pub use status_lines::{Refusal, RefusalKind, Status};
+pub use status_lines::{InputFault, InputName, Refusal, Status};

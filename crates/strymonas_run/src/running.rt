@@ -1,21 +1,20 @@
-ghost use Rattle.std.specs.Prelude.{◌≡◌, ◌≤◌, ◌↔◌, None};
-ghost use Rattle.strm_io.specs.Counts.{Rose};
+ghost use Rattle.std.specs.Prelude.{◌≡◌, ◌≤◌, ◌↔◌, ℕ, Some, None, Ok, Err};
+ghost use Rattle.command_words.specs.Commands.{job_of, texts_of};
+ghost use Rattle.job_steps.specs.Answers.{Answers, ComesOfFailing, ComesOfWork, HasCause};
+ghost use Rattle.job_steps.specs.Jobs.{Prepares};
+ghost use Rattle.job_steps.specs.Works.{Work};
 ghost use Rattle.status_lines.specs.StatusLines.{line_of, Reports};
-ghost use Rattle.status_lines.specs.declared.refusals.Refusal.{Refusal};
-ghost use Rattle.strymonas_run.specs.Commands.{asked_file, asked_job};
-ghost use Rattle.strymonas_run.specs.Jobs.{Answers, ComesWhere, HasCause, IsComplete};
-ghost use Rattle.strymonas_run.specs.Jobs.{IsMissingFile, IsNoPipeline, IsRefusal};
-ghost use Rattle.strymonas_run.specs.Jobs.{IsRefusedFile, IsTooLongFile};
+ghost use Rattle.strm_io.specs.Store.{Store};
 
-use crate::commands::read_words;
 use crate::jobs::do_job;
+use command_words::read_words;
+use job_steps::{only_words_end_as_words, words_come_to_one};
 use status_lines::{Status, report};
 use std::alloc::Global;
 use strm_io::{Files, Sink};
 
-/// Runs the command that the words are: the file is read from `files`, its text goes to `out`, and
-/// the line of a status other than `Done` to `err`.
-#[tactic(auto, using(crate::proofs::StatusConditions::conditions))]
+/// Runs the command that the words are: files are read from `files`, its text goes to `out`, and the line
+/// of a status other than `Done` to `err`.
 pub fn run_words<F: Files, O: Sink, E: Sink>(
     alloc: Global,
     words: &[String],
@@ -23,30 +22,23 @@ pub fn run_words<F: Files, O: Sink, E: Sink>(
     out: &mut O,
     err: &mut E,
 ) -> Status
-    // The headline: what each status says of the file, and of what was written to `out`.
-    ensures answers { Answers (asked_job words.now) (F.holds files.old) (asked_file words.now)
+    // The headline: what each status says of the words, of the files, and of what was written to `out`.
+    ensures answers { Answers (F.holds files.old) (texts_of words.now)
         (O.written out.old) (O.written out.new) result }
     ensures cause { HasCause (F.misses files.old) (F.misses files.new)
         (F.faults files.old) (F.faults files.new) (O.faults out.old) (O.faults out.new) result }
 
-    // When each status comes.
-    ensures words { (result ≡ Status.Words) ↔ (asked_job words.now ≡ None) }
-    ensures missing { ComesWhere (asked_job words.now) (F.holds files.old) (asked_file words.now)
-        IsMissingFile (λ s. s ≡ Status.Missing) result }
-    ensures too_long { ComesWhere (asked_job words.now) (F.holds files.old) (asked_file words.now)
-        IsTooLongFile (λ s. s ≡ Status.TooLong) result }
-    ensures refused { ComesWhere (asked_job words.now) (F.holds files.old) (asked_file words.now)
-        IsNoPipeline IsRefusal result }
-    ensures refusal { (r : Refusal) →
-        ComesWhere (asked_job words.now) (F.holds files.old) (asked_file words.now)
-        (IsRefusedFile r) (λ s. s ≡ Status.Refused r) result }
-    ensures complete { IsComplete (asked_job words.now) (F.holds files.old) (asked_file words.now)
-        (Rose (F.faults files.old) (F.faults files.new))
-        (Rose (O.faults out.old) (O.faults out.new)) result }
+    // When each status comes: where a step fails, its status; and where all pass, one that the work ends
+    // with.
+    ensures words { (result ≡ Status.Words) ↔ (job_of (texts_of words.now) ≡ None) }
+    ensures exact { (store : Store) (failed : Status) → F.holds files.old ≡ Some store
+        → Prepares (Some store) (texts_of words.now) (Err failed) → ComesOfFailing failed result }
+    ensures complete { (store : Store) (work : Work) → F.holds files.old ≡ Some store
+        → Prepares (Some store) (texts_of words.now) (Ok work) → ComesOfWork work result }
 
     // The line on `err`.
-    ensures line { Reports (E.written err.old) (E.written err.new)
-        (line_of result (asked_file words.now)) (E.faults err.old) (E.faults err.new) }
+    ensures line { Reports (E.written err.old) (E.written err.new) (line_of result)
+        (E.faults err.old) (E.faults err.new) }
     ensures quiet { result ≡ Status.Done → E.written err.new ≡ E.written err.old }
 
     // The devices: what the store holds stays, and no count falls.
@@ -56,35 +48,27 @@ pub fn run_words<F: Files, O: Sink, E: Sink>(
     ensures write_faults { O.faults out.old ≤ O.faults out.new }
     ensures line_faults { E.faults err.old ≤ E.faults err.new }
 {
+    words_come_to_one();
+    only_words_end_as_words();
     let status = perform(alloc, words, files, out);
-    report(status, name_in(words), err);
+    report(&status, err);
     status
 }
 
-// Does what the words ask for.
+/// Does what the words ask for.
 fn perform<F: Files, O: Sink>(alloc: Global, words: &[String], files: &mut F, out: &mut O) -> Status
-    ensures answers { Answers (asked_job words.now) (F.holds files.old) (asked_file words.now)
+    ensures answers { Answers (F.holds files.old) (texts_of words.now)
         (O.written out.old) (O.written out.new) result }
+    ensures words { job_of (texts_of words.now) ≡ None → result ≡ Status.Words }
     ensures cause { HasCause (F.misses files.old) (F.misses files.new)
         (F.faults files.old) (F.faults files.new) (O.faults out.old) (O.faults out.new) result }
-
     ensures holds { F.holds files.new ≡ F.holds files.old }
     ensures misses { F.misses files.old ≤ F.misses files.new }
     ensures read_faults { F.faults files.old ≤ F.faults files.new }
     ensures write_faults { O.faults out.old ≤ O.faults out.new }
 {
     match read_words(words) {
-        Some(job) => do_job(alloc, job, name_in(words), files, out),
+        Some(job) => do_job(alloc, job, words, files, out),
         None => Status::Words,
-    }
-}
-
-// The file that the words name, and nothing where they name none.
-fn name_in(words: &[String]) -> &str
-    ensures { result.now ≡ asked_file words.now }
-{
-    match words {
-        [_, file, ..] => file.as_str(),
-        _ => "",
     }
 }

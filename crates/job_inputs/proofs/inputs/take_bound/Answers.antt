@@ -1,0 +1,33 @@
+use Rattle.std.proofs.Common.{◌+◌, ◌∙◌, [], drop, arith}
+use Rattle.std.proofs.lemmas.Result.{err_from_is_err_and}
+use Rattle.command_words.specs.Commands.{texts_of}
+use Rattle.status_lines.specs.declared.statuses.InputName.TheVariants.{Named}
+use Rattle.job_steps.specs.Bindings.{Given}
+use Rattle.job_steps.specs.Inputs.{TakesInputs}
+use Rattle.job_inputs.specs.Givens.{bound_givens}
+use Rattle.job_inputs.specs.Names.{names_of}
+use Rattle.job_inputs.proofs.Bounds.{bound_left}
+use Rattle.job_inputs.proofs.Endings.{take_fails, take_goes}
+use Rattle.job_inputs.proofs.inputs.take_bound.Goals as goal
+
+pub returns-in_err-input-clause-takes : goal.returns-in_err-input-clause-takes
+returns-in_err-input-clause-takes g c =
+    let store = g.F.Files.holds c.args.files.now in
+    let given : Given = record { name = Named c.as_slice-name.result.now; kind = c.get.result.now; value = c.value_for-given.result.now } in
+    let rest = bound_givens (texts_of c.args.words.now) (names_of (drop (c.loop-i.i + 1) c.args.names.now)) (drop (c.loop-i.i + 1) c.args.kinds.now) in
+    let here = bound_left (texts_of c.args.words.now) c.args.names.now c.args.kinds.now c.loop-i.i c.index-names-i.result c.get.result.now c.as_slice-name.result.now c.value_for-given.result.now (omega arith) c.index-names-i.is c.get.ensures c.as_slice-name.ensures c.value_for-given.ensures in
+    let p = err_from_is_err_and c.from_residual.result c.from_residual.ensures.1 in
+    rw (p.1, p.2) (take_fails store _ c.loop-i.invariant.holds c.loop-i.taken given rest _ (TakesInputs store [] (bound_givens (texts_of c.args.words.now) (names_of c.args.names.now) c.args.kinds.now)) here c.loop-i.invariant.left c.in_err-input.field-0.0 c.in_err-input.ensures.takes)
+
+pub loop-i-preserved : goal.loop-i-preserved
+loop-i-preserved g c =
+    let store = g.F.Files.holds c.args.files.now in
+    let given : Given = record { name = Named c.as_slice-name.result.now; kind = c.get.result.now; value = c.value_for-given.result.now } in
+    let rest = bound_givens (texts_of c.args.words.now) (names_of (drop (c.loop-i.i + 1) c.args.names.now)) (drop (c.loop-i.i + 1) c.args.kinds.now) in
+    let here = bound_left (texts_of c.args.words.now) c.args.names.now c.args.kinds.now c.loop-i.i c.index-names-i.result c.get.result.now c.as_slice-name.result.now c.value_for-given.result.now (omega arith) c.index-names-i.is c.get.ensures c.as_slice-name.ensures c.value_for-given.ensures in
+    record {
+      left = take_goes store _ c.loop-i.invariant.holds c.loop-i.taken given rest _ (TakesInputs store [] (bound_givens (texts_of c.args.words.now) (names_of c.args.names.now) c.args.kinds.now)) here c.loop-i.invariant.left c.in_ok-input.input c.push.new.self c.in_ok-input.ensures.takes c.in_ok-push.ensures.ok;
+      holds = c.take_input.ensures.holds ∙ c.loop-i.invariant.holds;
+      misses = omega (arith, c.take_input.ensures.misses, c.loop-i.invariant.misses);
+      faults = omega (arith, c.take_input.ensures.faults, c.loop-i.invariant.faults);
+    }

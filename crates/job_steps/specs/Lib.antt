@@ -1,0 +1,9 @@
+pub mod Steps
+pub mod Loads
+pub mod Pipelines
+pub mod CTexts
+pub mod Bindings
+pub mod Inputs
+pub mod Works
+pub mod Jobs
+pub mod Answers

@@ -1,5 +1,0 @@
-use Rattle.strymonas_run.proofs.OneOutcome.{one_pipeline}
-use Rattle.strymonas_run.proofs.laws.files_are_one_pipeline.Goals as goal
-
-pub returns : goal.returns
-returns c = one_pipeline c.texts_have_one_answer.ensures c.answers_are_one.ensures
