@@ -1,4 +1,5 @@
-/// What the program is asked to do. Word 1 names the file, and word 0 is the command.
+/// What the program is asked to do. Word 0 is the command, and word 1 names the file, but for `Bench`,
+/// which has none.
 ///
 /// `rest` is the number of the first word behind the file and the option: from there on each word is a
 /// value that is given, for `Run` and `Model` as `NAME=VALUE`.
@@ -14,7 +15,12 @@ pub enum Job {
     Exec { turns: u64, rest: u64 },
     /// Write what a pipeline's lists give, where each source is cut off behind so many rows.
     Model { pulls: u64, rest: u64 },
+    /// Run the pipeline of the bench on so many items of a seed.
+    Bench { seed: u64, count: u64 },
 }
 
 /// How many turns a run may take where the words say nothing of it.
 pub const DEFAULT_TURNS: u64 = 100_000_000;
+
+/// How many items a bench may have.
+pub const MOST_BENCH_ITEMS: u64 = 1_000_000;

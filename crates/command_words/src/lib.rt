@@ -10,5 +10,5 @@ mod jobs;
 mod reading;
 
 pub use bindings::{is_binding, name_in, value_in};
-pub use jobs::{DEFAULT_TURNS, Job};
+pub use jobs::{DEFAULT_TURNS, Job, MOST_BENCH_ITEMS};
 pub use reading::read_words;

@@ -1,13 +1,13 @@
-ghost use Rattle.std.specs.Prelude.{◌≡◌, drop, option_map, string_bytes};
+ghost use Rattle.std.specs.Prelude.{◌≡◌, drop, IfSome, option_map, string_bytes};
 ghost use Rattle.std.specs.List.{list_all};
 ghost use Rattle.std.specs.Option.{option_and_then};
 ghost use Rattle.command_words.specs.Bindings.{is_binding};
 ghost use Rattle.command_words.specs.Bounds.{bound_of};
-ghost use Rattle.command_words.specs.Commands.{alone, bound_given, job_named, job_of, pulls_of, texts_of, turns_of, with_bindings};
+ghost use Rattle.command_words.specs.Commands.{IsWithin, alone, bench_job, bench_of, bound_given, job_named, job_of, pulls_of, texts_of, turns_of, with_bindings};
 ghost use Rattle.command_words.specs.declared.jobs.Job.TheVariants.{Run, Exec, Model};
 
 use crate::bindings::is_binding;
-use crate::jobs::{DEFAULT_TURNS, Job};
+use crate::jobs::{DEFAULT_TURNS, Job, MOST_BENCH_ITEMS};
 use value_files::natural;
 
 /// A bound, and the number of the first word behind it.
@@ -20,24 +20,28 @@ struct Bound {
 /// What the words ask for, and none exactly where they are no command.
 ///
 /// The commands are `check FILE`, `compile FILE`, `run FILE [--turns N] [NAME=VALUE ..]`,
-/// `exec FILE [--turns N] [VALUE ..]` and `model FILE --pulls N [NAME=VALUE ..]`. What stands in brackets
-/// may be left out, and `..` stands for more words of the same form. FILE and VALUE may be any text, and
-/// NAME is one byte or more without `=`. N is one decimal digit or more, and its number is below 2^64.
-/// Where `--turns` is left out, N is 100,000,000. A word `--turns` directly behind the file is always the
+/// `exec FILE [--turns N] [VALUE ..]`, `model FILE --pulls N [NAME=VALUE ..]` and `bench SEED COUNT`. What
+/// stands in brackets may be left out, and `..` stands for more words of the same form. FILE and VALUE may
+/// be any text, and NAME is one byte or more without `=`. N, SEED and COUNT are one decimal digit or more;
+/// the number of N and of SEED is below 2^64, and that of COUNT at most 1,000,000. Where `--turns` is left out, N is 100,000,000. A word `--turns` directly behind the file is always the
 /// option, and is never taken as a VALUE. The call takes no memory.
 #[tactic(auto, using(crate::proofs::WordTexts::few_words))]
 pub fn read_words(words: &[String]) -> Option<Job>
-    ensures { result ≡ job_of (texts_of words.now) }
+    ensures reads { result ≡ job_of (texts_of words.now) }
+    // What follows for `Bench`: its count is at most 1,000,000.
+    ensures within { IfSome result IsWithin }
 {
     match words {
-        [command, _, behind @ ..] => job_named(command.as_str(), words, behind),
+        [command, first, behind @ ..] => {
+            job_named(command.as_str(), words, first.as_str(), behind)
+        }
         _ => None,
     }
 }
 
-/// The job of a command, by all words and by those behind the file.
-fn job_named(command: &str, words: &[String], behind: &[String]) -> Option<Job>
-    ensures { result ≡ job_named command.now (texts_of words.now) (texts_of behind.now) }
+/// The job of a command, by all words, by the first behind the command, and by those behind that.
+fn job_named(command: &str, words: &[String], first: &str, behind: &[String]) -> Option<Job>
+    ensures { result ≡ job_named command.now (texts_of words.now) first.now (texts_of behind.now) }
 {
     match command {
         "check" => alone(Job::Check, behind),
@@ -45,6 +49,7 @@ fn job_named(command: &str, words: &[String], behind: &[String]) -> Option<Job>
         "run" => run_job(words, behind),
         "exec" => exec_job(behind),
         "model" => model_job(words, behind),
+        "bench" => bench_job(first, behind),
         _ => None,
     }
 }
@@ -99,6 +104,26 @@ fn model_job(words: &[String], behind: &[String]) -> Option<Job>
         })
     } else {
         None
+    }
+}
+
+/// The job of `bench`: its seed, its count, and nothing behind them.
+fn bench_job(seed: &str, behind: &[String]) -> Option<Job>
+    ensures { result ≡ bench_job seed.now (texts_of behind.now) }
+{
+    match behind {
+        [count] => bench_of(natural(seed.as_bytes()), natural(count.as_str().as_bytes())),
+        _ => None,
+    }
+}
+
+/// The job of `bench`, where both are numbers, and the count is no more than it may be.
+fn bench_of(seed: Option<u64>, count: Option<u64>) -> Option<Job>
+    ensures { result ≡ bench_of seed count }
+{
+    match (seed, count) {
+        (Some(seed), Some(count)) if count <= MOST_BENCH_ITEMS => Some(Job::Bench { seed, count }),
+        _ => None,
     }
 }
 

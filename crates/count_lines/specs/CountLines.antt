@@ -1,4 +1,5 @@
--- What `check` writes of a pipeline: the kinds of the row that its terminal gives, and its counts, a line each.
+-- What `check` writes of a pipeline, the kinds of the row that its terminal gives, and its counts, a line each; and
+-- what `bench` writes.
 use Rattle.std.specs.Prelude.{ℕ, List, [], ◌∷◌, ◌++◌, Option, Some, None, codes, decimal}
 use Rattle.list_denotation.specs.declared.kind.Kind.{Kind}
 use Rattle.list_denotation.specs.declared.kind.Kind.TheVariants.{Int, Bool}
@@ -41,3 +42,7 @@ bound_lines p = count_line (codes "variables at most ") (most_vars p) ++ count_l
 
 abbrev pub counts_text : Pipeline → List ℕ
 counts_text p = kinds_line p ++ size_lines p ++ loop_lines p ++ bound_lines p
+
+-- the lines of a bench: how many items it ran on, the row that it gave, whose text ends its line, and its loops
+abbrev pub bench_lines : Pipeline → ℕ → List ℕ → List ℕ
+bench_lines p items row = count_line (codes "items ") items ++ (codes "result " ++ row) ++ loop_lines p

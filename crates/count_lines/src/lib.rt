@@ -1,12 +1,14 @@
-//! What `check` writes of a pipeline: the kinds of the row that its terminal gives, and its counts.
+//! What `check` writes of a pipeline, the kinds of the row that its terminal gives and its counts; and what
+//! `bench` writes.
 //!
 //! It depends on list_denotation, for programs and what is counted of them, and on text_pieces.
-//! `specs/CountLines` defines the lines, and `counts_text` carries the promise that it gives them.
+//! `specs/CountLines` defines the lines; `counts_text` and `bench_lines` carry the promise that they give
+//! them.
 #![tactic(auto)]
 
 ghost use Rattle.std.specs.Prelude.{◌≡◌, ◌++◌, IfOk, OnOk};
 ghost use Rattle.list_denotation.specs.Pipelines.{pipeline_of};
-ghost use Rattle.count_lines.specs.CountLines.{bound_lines, count_line, counts_text, kind_text};
+ghost use Rattle.count_lines.specs.CountLines.{bench_lines, bound_lines, count_line, counts_text, kind_text};
 ghost use Rattle.count_lines.specs.CountLines.{kind_texts, kinds_line, loop_lines, size_lines};
 
 use list_denotation::{
@@ -28,6 +30,21 @@ pub fn counts_text(alloc: Global, p: &Program) -> Result<Vec<u8>, NoMemory>
     put_sizes(&mut out, p)?;
     put_loops(&mut out, p)?;
     put_bounds(&mut out, p)?;
+    Ok(out)
+}
+
+/// The four lines of a bench of a pipeline, as ASCII: the number of items that it ran on, the text of the
+/// row that it gave, which ends in a line feed, and how many loops it has and how deep they are nested.
+///
+/// The one error is `NoMemory`, where memory is refused.
+pub fn bench_lines(alloc: Global, p: &Program, items: u64, row: &[u8]) -> Result<Vec<u8>, NoMemory>
+    ensures { IfOk result (λ text. text.items ≡ bench_lines (pipeline_of p.now) items row.now) }
+{
+    let mut out = Vec::new(alloc);
+    put_count(&mut out, b"items ", items)?;
+    put(&mut out, b"result ")?;
+    put(&mut out, row)?;
+    put_loops(&mut out, p)?;
     Ok(out)
 }
 

@@ -6,8 +6,9 @@
 //! numbers with a blank between each two. An `EndRow` is a line feed.
 //!
 //! It depends on list_denotation, whose `Event` it speaks of, on strm_num for words, and on text_pieces.
-//! `specs/Texts` is that rule, and `print_events` gives the text of a list of events. The laws say that a text tells its events, where these hold words, and that what is
-//! written of some events stays at the front when more are written.
+//! `specs/Texts` is that rule, and `print_events` gives the text of a list of events. The laws say that a
+//! text tells its events, where these hold words, and that what is written of some events stays at the
+//! front when more are written.
 #![tactic(auto)]
 
 mod laws;

@@ -17,7 +17,7 @@ use strm_io::Files;
 
 /// The pipeline of a text of at most 65,536 bytes, or the status for its first fault: that of its tokens,
 /// of its tree or of its kinds.
-fn read_pipeline(alloc: Global, src: &[u8]) -> Result<Box<Source>, Status>
+pub fn read_pipeline(alloc: Global, src: &[u8]) -> Result<Box<Source>, Status>
     requires { length src.now ≤ MOST_BYTES }
     ensures { ComesOf source_of (ReadsPipeline src.now) result }
 {

@@ -15,7 +15,7 @@ use Rattle.status_lines.specs.declared.statuses.Status.{Status}
 use Rattle.status_lines.specs.declared.statuses.Status.TheVariants as status
 use Rattle.status_lines.specs.declared.statuses.Status.TheVariants.{Undefined, Words}
 use Rattle.job_steps.specs.Jobs.{Prepares}
-use Rattle.job_steps.specs.Works.{Work, Counting, Compiling, Running, Executing, Listing, Ends, IsListed, IsSeen, status_at}
+use Rattle.job_steps.specs.Works.{Work, Counting, Compiling, Running, Executing, Listing, Benching, Ends, IsListed, IsSeen, status_at}
 
 -- ---- the status of words
 
@@ -31,6 +31,7 @@ never_words (Compiling p) text h = let e = h.0 in cc
 never_words (Running p inputs n) text h = at_words n _ h.seen.0
 never_words (Executing q inputs n) text h = at_words n _ h.0
 never_words (Listing p inputs n) text h = at_words n _ h.1.0
+never_words (Benching seed count) text h = let e = h.0 in cc
 
 -- ---- undefined
 
@@ -60,6 +61,7 @@ undefined_program store words none fit (Running p inputs n) text h k =
     absurd (none p inputs n (stuck_further (meaning k.routine inputs n) (observation p inputs n) (k.emitted.no_further inputs n (fit p inputs n h)) (at_undefined n _ k.seen.0)))
 undefined_program store words none fit (Executing q inputs n) text h k = (q, (inputs, (n, refl)))
 undefined_program store words none fit (Listing p inputs n) text h k = absurd (none p inputs n (at_undefined n _ k.1.0))
+undefined_program store words none fit (Benching seed count) text h k = let e = k.0 in absurd cc
 
 -- ---- one way to end
 

@@ -3,7 +3,7 @@ use Rattle.std.proofs.Common.{◌≡◌, ◌↔◌, inl, inr, ℕ, ◌+◌, List
 use Rattle.std.proofs.lemmas.List.{length-map}
 use Rattle.command_words.specs.Commands.{job_of, file_of}
 use Rattle.command_words.specs.declared.jobs.Job.{Job}
-use Rattle.command_words.specs.declared.jobs.Job.TheVariants.{Check, Compile, Run, Exec, Model}
+use Rattle.command_words.specs.declared.jobs.Job.TheVariants.{Check, Compile, Run, Exec, Model, Bench}
 use Rattle.kind_rules.specs.Checking.{IsTyped}
 use Rattle.kind_rules.specs.Inputs.{input_kind}
 use Rattle.kind_rules.specs.StandsFor.{StandsFor}
@@ -27,7 +27,7 @@ use Rattle.job_steps.specs.Loads.{Loads}
 use Rattle.job_steps.specs.Bindings.{Given, bound_value, words_fault, unless_fault, with_given, with_value, values_of, bound, placed}
 use Rattle.job_steps.specs.Inputs.{int_of, ReadsArray, TakesKind, TakesInputs, BindsInputs, PlacesInputs}
 use Rattle.job_steps.specs.Jobs.{PreparesPipeline, PreparesC, PreparesJob, Prepares}
-use Rattle.job_steps.specs.Works.{Work, Counting, Compiling, Running, Executing, Listing}
+use Rattle.job_steps.specs.Works.{Work, Counting, Compiling, Running, Executing, Listing, Benching}
 use Rattle.job_steps.proofs.ValueWords.{value_word, passed_words}
 
 -- where a step and the next give something, the first gave something
@@ -125,6 +125,7 @@ InputsFit (Compiling p) = Unit {0}
 InputsFit (Running p inputs n) = Fits inputs p.inputs
 InputsFit (Executing q inputs n) = Fits inputs q.params
 InputsFit (Listing p inputs n) = Fits inputs p.inputs
+InputsFit (Benching seed count) = Unit {0}
 
 module _ (stands : StandsWhereTyped) (store : Option Store) where
   -- each input of a pipeline that is read has a name
@@ -174,6 +175,7 @@ module _ (stands : StandsWhereTyped) (store : Option Store) where
   job_fits words (Some (Run turns rest)) work h = pipeline_fits (file_of words) (drop rest words) (λ p inputs. Running p inputs turns) (λ p inputs fits. fits) work h
   job_fits words (Some (Exec turns rest)) work h = program_fits (file_of words) (drop rest words) turns work h
   job_fits words (Some (Model pulls rest)) work h = pipeline_fits (file_of words) (drop rest words) (λ p inputs. Listing p inputs pulls) (λ p inputs fits. fits) work h
+  job_fits words (Some (Bench seed count)) work h = let same : Benching seed count ≡ work = cc in subst InputsFit same tt
 
 pub inputs_fit : StandsWhereTyped → (store : Option Store) (words : List (List ℕ)) (work : Work) → Prepares store words (Ok work) → InputsFit work
 inputs_fit stands store words work h = job_fits stands store words (job_of words) work h

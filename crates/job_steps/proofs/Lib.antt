@@ -9,3 +9,4 @@ mod InputsFit
 pub mod TakenSteps
 mod NeverFailing
 mod Endings
+pub mod Benches

@@ -4,7 +4,7 @@ use Rattle.std.specs.Option.{option_or}
 use Rattle.command_words.specs.Bindings.{name_in}
 use Rattle.command_words.specs.Commands.{job_of, file_of}
 use Rattle.command_words.specs.declared.jobs.Job.{Job}
-use Rattle.command_words.specs.declared.jobs.Job.TheVariants.{Check, Compile, Run, Exec, Model}
+use Rattle.command_words.specs.declared.jobs.Job.TheVariants.{Check, Compile, Run, Exec, Model, Bench}
 use Rattle.list_denotation.specs.declared.input.Input.{Input}
 use Rattle.list_denotation.specs.declared.input.InputKind.{InputKind}
 use Rattle.list_denotation.specs.declared.input.InputKind.TheVariants as kind
@@ -139,6 +139,7 @@ module _ (store : Option Store) where
   no_job words (Some (Run turns rest)) h = absurd (bound_work_never (file_of words) (drop rest words) (λ p inputs. Running p inputs turns) h)
   no_job words (Some (Exec turns rest)) h = absurd (placed_work_never (file_of words) (drop rest words) turns h)
   no_job words (Some (Model pulls rest)) h = absurd (bound_work_never (file_of words) (drop rest words) (λ p inputs. Listing p inputs pulls) h)
+  no_job words (Some (Bench seed count)) h = absurd cc
 
 -- steps fail with the status of words only where the words are no command
 pub no_command : (store : Option Store) (words : List (List ℕ)) → Prepares store words (Err Words) → job_of words ≡ None

@@ -5,7 +5,7 @@ use Rattle.c_faults.specs.Answers as c_texts
 use Rattle.c_faults.specs.declared.fault.CFault.TheVariants as c
 use Rattle.command_words.specs.Commands.{job_of, file_of}
 use Rattle.command_words.specs.declared.jobs.Job.{Job}
-use Rattle.command_words.specs.declared.jobs.Job.TheVariants.{Check, Compile, Run, Exec, Model}
+use Rattle.command_words.specs.declared.jobs.Job.TheVariants.{Check, Compile, Run, Exec, Model, Bench}
 use Rattle.list_denotation.specs.declared.input.Input.{Input}
 use Rattle.list_denotation.specs.declared.input.Input.TheVariants as input
 use Rattle.list_denotation.specs.declared.input.InputKind.{InputKind}
@@ -29,7 +29,7 @@ use Rattle.job_steps.specs.CTexts.{LoadsC, ReadsC}
 use Rattle.job_steps.specs.Bindings.{Given, bound, placed}
 use Rattle.job_steps.specs.Inputs.{int_of, ReadsArray, TakesKind, TakesInput, TakesInputs, BindsInputs, PlacesInputs}
 use Rattle.job_steps.specs.Jobs.{PreparesPipeline, PreparesC, PreparesJob, Prepares}
-use Rattle.job_steps.specs.Works.{Work, Counting, Compiling, Running, Executing, Listing}
+use Rattle.job_steps.specs.Works.{Work, Counting, Compiling, Running, Executing, Listing, Benching}
 use Rattle.job_steps.specs.Answers.{IsOneUnlessUnread}
 use Rattle.job_steps.proofs.OneEnd.{AreOneOrUnread, ComesToOne, IsAnswered, IsUnread, answered_one, is_one, one_by, then_one}
 use Rattle.job_steps.proofs.OneReading.{OneLexing, OneTree, reading_one}
@@ -155,6 +155,7 @@ module _ (one_lexing : OneLexing) (one_tree : OneTree) (one_program : OneProgram
   job_one words (Some (Run turns rest)) = bound_one (file_of words) (drop rest words) (λ p inputs. Running p inputs turns)
   job_one words (Some (Exec turns rest)) = placed_one (file_of words) (drop rest words) turns
   job_one words (Some (Model pulls rest)) = bound_one (file_of words) (drop rest words) (λ p inputs. Listing p inputs pulls)
+  job_one words (Some (Bench seed count)) = is_one (Ok (Benching seed count))
 
 -- ---- one end, unless a file isn't read
 

@@ -2,7 +2,7 @@
 use Rattle.std.specs.Prelude.{ℕ, List, drop, Option, Some, None, Result, Ok, Err}
 use Rattle.command_words.specs.Commands.{job_of, file_of}
 use Rattle.command_words.specs.declared.jobs.Job.{Job}
-use Rattle.command_words.specs.declared.jobs.Job.TheVariants.{Check, Compile, Run, Exec, Model}
+use Rattle.command_words.specs.declared.jobs.Job.TheVariants.{Check, Compile, Run, Exec, Model, Bench}
 use Rattle.list_denotation.specs.declared.input.Input.{Input}
 use Rattle.list_denotation.specs.Terms.{Pipeline}
 use Rattle.strm_io.specs.Store.{Store}
@@ -12,7 +12,7 @@ use Rattle.job_steps.specs.Steps.{Is, Then}
 use Rattle.job_steps.specs.Pipelines.{LoadsPipeline}
 use Rattle.job_steps.specs.CTexts.{LoadsC}
 use Rattle.job_steps.specs.Inputs.{BindsInputs, PlacesInputs}
-use Rattle.job_steps.specs.Works.{Work, Counting, Compiling, Running, Executing, Listing}
+use Rattle.job_steps.specs.Works.{Work, Counting, Compiling, Running, Executing, Listing, Benching}
 
 -- work on a pipeline and its inputs: the pipeline is loaded, and then its inputs are taken
 abbrev pub PreparesPipeline : Option Store → List ℕ → List (List ℕ) → (Pipeline → List Input → Work) → Result Work Status → Type 0
@@ -34,6 +34,7 @@ PreparesJob store words (Some Compile) = Then (LoadsPipeline store (file_of word
 PreparesJob store words (Some (Run turns rest)) = PreparesPipeline store (file_of words) (drop rest words) (λ p inputs. Running p inputs turns)
 PreparesJob store words (Some (Exec turns rest)) = PreparesC store (file_of words) (drop rest words) turns
 PreparesJob store words (Some (Model pulls rest)) = PreparesPipeline store (file_of words) (drop rest words) (λ p inputs. Listing p inputs pulls)
+PreparesJob store words (Some (Bench seed count)) = Is (Ok (Benching seed count))
 
 -- what comes of the words: work, or the status of the first step that fails
 abbrev pub Prepares : Option Store → List (List ℕ) → Result Work Status → Type 0

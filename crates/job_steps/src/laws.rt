@@ -5,7 +5,7 @@ ghost use Rattle.command_words.specs.Commands.{job_of};
 ghost use Rattle.job_steps.specs.Answers.{IsOneUnlessUnread};
 ghost use Rattle.job_steps.specs.Jobs.{Prepares};
 ghost use Rattle.job_steps.specs.Pipelines.{IsPipelineFile, HasRefusal};
-ghost use Rattle.job_steps.specs.Works.{Counting, Ends, Executing, IsRun, IsSeen, Listing, Running, Work};
+ghost use Rattle.job_steps.specs.Works.{Benching, Counting, Ends, Executing, IsRun, IsSeen, Listing, Running, Work};
 ghost use Rattle.list_denotation.specs.declared.input.Input.{Input};
 ghost use Rattle.list_denotation.specs.Far.{Far};
 ghost use Rattle.list_denotation.specs.Inputs.{Fits};
@@ -123,4 +123,8 @@ pub fn work_ends_in_one_way()
     ensures listing { (p : Pipeline) (inputs : List Input) (n : ℕ) (s t : Status) (a b : List ℕ)
         → Ends (Listing p inputs n) s a → Ends (Listing p inputs n) t b
         → (s ≡ t) × (a ≡ b) }
-{}
+    ensures benching { (seed count : ℕ) (s t : Status) (a b : List ℕ)
+        → Ends (Benching seed count) s a → Ends (Benching seed count) t b → (s ≡ t) × (a ≡ b) }
+{
+    files_are_one_pipeline();
+}

@@ -356,7 +356,9 @@ const C_TEXTS: [Row; 7] = [
     ),
 ];
 
-const WORDS: [&[&str]; 10] = [
+const WORDS: [&[&str]; 16] = [
+    &[],
+    &["check", "p", "q"],
     &["run"],
     &["run", "p", "--turns"],
     &["run", "p", "a"],
@@ -367,6 +369,10 @@ const WORDS: [&[&str]; 10] = [
     &["model", "p", "--pulls", "x"],
     &["exec"],
     &["exec", "p", "--turns"],
+    &["bench", "0"],
+    &["bench", "0", "1", "2"],
+    &["bench", "0", "1000001"],
+    &["bench", "18446744073709551616", "1"],
 ];
 
 /// Whether each row comes out.

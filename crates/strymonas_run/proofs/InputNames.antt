@@ -1,5 +1,5 @@
 -- The names of a tree's inputs, as the code has them and as their plain copies.
-use Rattle.std.proofs.Common.{◌≡◌, ℕ, List, [], ◌∷◌, map, refl, ap}
+use Rattle.std.proofs.Common.{◌≡◌, List, [], ◌∷◌, map, refl, ap}
 use Rattle.job_inputs.specs.Names.{names_of}
 use Rattle.pipe_tree.specs.TreeCopies.{declaration_of}
 use Rattle.pipe_tree.specs.Trees.{Declaration}

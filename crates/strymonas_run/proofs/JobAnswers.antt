@@ -7,7 +7,7 @@ use Rattle.job_steps.specs.Steps.{ComesOf, Is, Then}
 use Rattle.job_steps.specs.Works.{Work, Ends}
 use Rattle.status_lines.specs.declared.statuses.Status.{Status}
 use Rattle.status_lines.specs.declared.statuses.Status.TheVariants.{Missing, ReadFault, WriteFault, NoMemory}
-use Rattle.strymonas_run.specs.Working.{Does}
+use Rattle.job_work.specs.Working.{Does}
 
 -- ---- answers
 

@@ -1,5 +1,3 @@
-pub mod CTexts
-pub mod DoneWork
 pub mod InputNames
 pub mod JobAnswers
 pub mod StatusConditions

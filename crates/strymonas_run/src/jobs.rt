@@ -1,7 +1,7 @@
 //! What each command does: its steps, and then its work.
 
 ghost use Rattle.std.specs.Prelude.{◌≡◌, ◌≤◌, Some, Ok, drop};
-ghost use Rattle.command_words.specs.Commands.{file_of, texts_of};
+ghost use Rattle.command_words.specs.Commands.{IsWithin, file_of, texts_of};
 ghost use Rattle.job_files.specs.Sources.{named_of};
 ghost use Rattle.job_steps.specs.Answers.{AnswersSteps, HasCause};
 ghost use Rattle.job_steps.specs.CTexts.{LoadsC};
@@ -11,12 +11,12 @@ ghost use Rattle.job_steps.specs.Pipelines.{LoadsPipeline};
 ghost use Rattle.job_steps.specs.Steps.{Is, Then};
 ghost use Rattle.job_steps.specs.Works.{Counting, Compiling, Executing};
 ghost use Rattle.loop_ir.specs.Routines.{routine_of};
-ghost use Rattle.strymonas_run.specs.Ways.{work_of};
+ghost use Rattle.job_work.specs.Ways.{work_of};
 
-use crate::working::{Way, compile, count, execute, show};
 use command_words::Job;
 use job_files::{Source, loaded_c, loaded_pipeline};
 use job_inputs::{bound_inputs, placed_inputs};
+use job_work::{Way, bench, compile, count, execute, show};
 use loop_ir::Prog;
 use status_lines::Status;
 use std::alloc::Global;
@@ -202,6 +202,7 @@ pub fn do_job<F: Files, O: Sink>(
     files: &mut F,
     out: &mut O,
 ) -> Status
+    requires { IsWithin job }
     ensures answers { AnswersSteps
         (PreparesJob (F.holds files.old) (texts_of words.now) (Some job))
         (O.written out.old) (O.written out.new) result }
@@ -239,5 +240,6 @@ pub fn do_job<F: Files, O: Sink>(
                 out,
             )
         }
+        Job::Bench { seed, count } => bench(alloc, seed, count, out),
     }
 }

@@ -7,16 +7,14 @@
 //! was refused or a device failed.
 //!
 //! It depends on command_words for words, on job_files and job_inputs for the files and the inputs that
-//! steps read, on stateful_core, loop_emit and c_printer for the way from a pipeline to loops and to their C
-//! text, on loop_interp for running these, on list_model for computing lists, on count_lines and
-//! event_texts for what is written, and on status_lines for the statuses and the line of each.
+//! steps read, on job_work for the work, on job_steps for the definitions, and on status_lines for the
+//! statuses and the line of each.
 #![tactic(auto)]
 
-mod compiling;
 mod jobs;
 mod running;
-mod working;
 
+pub use bench_pipeline::bench_values;
 pub use command_words::{Job, read_words};
 pub use running::run_words;
 pub use status_lines::{InputFault, InputName, Refusal, Status};

@@ -5,7 +5,7 @@ use Rattle.job_steps.specs.Pipelines.{LoadsPipeline}
 use Rattle.job_steps.specs.Steps.{Is}
 use Rattle.job_steps.specs.Works.{Counting, Ends}
 use Rattle.list_denotation.specs.Pipelines.{pipeline_of}
-use Rattle.strymonas_run.specs.Working.{Does}
+use Rattle.job_work.specs.Working.{Does}
 use Rattle.strymonas_run.proofs.JobAnswers.{goes_on, worked}
 use Rattle.strymonas_run.proofs.jobs.check_file.Goals as goal
 

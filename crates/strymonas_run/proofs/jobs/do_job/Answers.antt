@@ -1,4 +1,4 @@
-use Rattle.std.proofs.Common.{◌≡◌, ℕ, List, Some, Ok, sym, subst}
+use Rattle.std.proofs.Common.{ℕ, List, Some, Ok, sym, subst}
 use Rattle.command_words.specs.Commands.{file_of, texts_of}
 use Rattle.command_words.specs.declared.jobs.Job.{Job}
 use Rattle.job_steps.specs.Answers.{AnswersSteps}
@@ -7,7 +7,8 @@ use Rattle.job_steps.specs.Inputs.{BindsInputs, PlacesInputs}
 use Rattle.job_steps.specs.Jobs.{PreparesJob}
 use Rattle.job_steps.specs.Pipelines.{LoadsPipeline}
 use Rattle.job_steps.specs.Steps.{Is, Then}
-use Rattle.job_steps.specs.Works.{Counting, Compiling, Running, Executing, Listing}
+use Rattle.job_steps.specs.Works.{Benching, Counting, Compiling, Running, Executing, Listing}
+use Rattle.strymonas_run.proofs.JobAnswers.{worked}
 use Rattle.strymonas_run.proofs.jobs.do_job.Goals as goal
 
 pub returns-in-Check-clause-answers : goal.returns-in-Check-clause-answers
@@ -37,3 +38,8 @@ returns-in-Model-clause-answers g c =
     let named = subst (λ (name : List ℕ). AnswersSteps (Then (LoadsPipeline (g.F.Files.holds c.args.files.now) name) (λ s. Then (BindsInputs (g.F.Files.holds c.args.files.now) (texts_of c.behind-in-Model.result.now) s.names s.pipeline.inputs) (λ inputs. Is (Ok (Listing s.pipeline inputs c.in-Model.pulls))))) (g.O.Sink.written c.args.out.now) (g.O.Sink.written c.show_file-in-Model.new.out) c.show_file-in-Model.result) c.file_in-name.ensures c.show_file-in-Model.ensures.answers in
     let behind = subst (λ (words : List (List ℕ)). AnswersSteps (Then (LoadsPipeline (g.F.Files.holds c.args.files.now) (file_of (texts_of c.args.words.now))) (λ s. Then (BindsInputs (g.F.Files.holds c.args.files.now) words s.names s.pipeline.inputs) (λ inputs. Is (Ok (Listing s.pipeline inputs c.in-Model.pulls))))) (g.O.Sink.written c.args.out.now) (g.O.Sink.written c.show_file-in-Model.new.out) c.show_file-in-Model.result) c.behind-in-Model.ensures named in
     subst (λ (j : Job). AnswersSteps (PreparesJob (g.F.Files.holds c.args.files.now) (texts_of c.args.words.now) (Some j)) (g.O.Sink.written c.args.out.now) (g.O.Sink.written c.show_file-in-Model.new.out) c.show_file-in-Model.result) (sym c.in-Model.is) behind
+
+pub returns-in-Bench-clause-answers : goal.returns-in-Bench-clause-answers
+returns-in-Bench-clause-answers g c =
+    let worked_on = worked (Benching c.in-Bench.seed c.in-Bench.count) (g.O.Sink.written c.args.out.now) (g.O.Sink.written c.bench.new.out) _ _ c.bench.result c.bench.ensures.does in
+    subst (λ (j : Job). AnswersSteps (PreparesJob (g.F.Files.holds c.args.files.now) (texts_of c.args.words.now) (Some j)) (g.O.Sink.written c.args.out.now) (g.O.Sink.written c.bench.new.out) c.bench.result) (sym c.in-Bench.is) worked_on

@@ -7,7 +7,7 @@ use Rattle.job_steps.specs.Inputs.{BindsInputs}
 use Rattle.job_steps.specs.Pipelines.{LoadsPipeline}
 use Rattle.job_steps.specs.Steps.{Is, Then}
 use Rattle.strm_io.specs.Store.{Store}
-use Rattle.strymonas_run.specs.Ways.{work_of}
+use Rattle.job_work.specs.Ways.{work_of}
 use Rattle.strymonas_run.proofs.JobAnswers.{goes_on}
 use Rattle.strymonas_run.proofs.jobs.show_file.Goals as goal
 

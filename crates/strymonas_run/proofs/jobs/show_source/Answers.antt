@@ -1,5 +1,4 @@
-use Rattle.std.proofs.Common.{◌≡◌, ◌∙◌, ℕ, List, Option, Ok, Err, ap, subst, refl}
-use Rattle.std.specs.Prelude.{Result}
+use Rattle.std.proofs.Common.{◌≡◌, ◌∙◌, ℕ, List, Ok, Err, ap, subst, refl}
 use Rattle.command_words.specs.Commands.{texts_of}
 use Rattle.job_inputs.specs.Names as code
 use Rattle.job_steps.specs.Inputs.{BindsInputs}
@@ -9,7 +8,7 @@ use Rattle.list_denotation.specs.declared.input.Input.{Input}
 use Rattle.list_denotation.specs.Pipelines.{pipeline_of}
 use Rattle.pipe_tree.specs.TreeCopies.{text_of}
 use Rattle.pipe_tree.specs.declared.tree.Tree.{Tree}
-use Rattle.strymonas_run.specs.Ways.{work_of}
+use Rattle.job_work.specs.Ways.{work_of}
 use Rattle.strymonas_run.proofs.InputNames.{same_names}
 use Rattle.strymonas_run.proofs.JobAnswers.{stopped, goes_on, worked}
 use Rattle.strymonas_run.proofs.jobs.show_source.Goals as goal

@@ -1,0 +1,3 @@
+pub mod CTexts
+pub mod DoneWork
+pub mod Benches
