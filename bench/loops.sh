@@ -6,11 +6,16 @@
 # prints a table for gcc and one for clang, each where it is there: of each pipeline in bench/loops the
 # milliseconds of the loop by hand, and how many times as long the emitted loop and the iterators take. All
 # run over the same random items, 10,000,000 of them, which lie in memory and were gone through before. Each
-# loop is compiled at -O2 and put at three code offsets, and the least time of all its runs counts, of 11
-# rounds. Rust is compiled at -O, so its column compares compilers too, and is '-' where there is no rustc.
+# loop is compiled at -O2 and put at three code offsets. In each of 11 rounds all run one after the other, and
+# the least time of all runs of a loop counts. Rust is compiled at -O, so its column compares compilers too,
+# and is '-' where there is no rustc. The first lines say what it runs on.
 #
-# Single figures within a tenth are noise. The script ends with 1 where a pipeline isn't compiled, or where the
-# results of a loop differ.
+# Loops over so many items can wait for memory rather than for the processor: `bench/loops.sh 100000 100` runs
+# over as many as a cache holds, in more rounds, as each is short.
+#
+# Single figures within a tenth are noise; where loops wait for memory, two runs of the script can differ by more.
+# The script ends with 1 where a pipeline isn't compiled, where a run doesn't give what the loop by hand gives, or
+# where an emitted loop doesn't return 0.
 set -eu
 cd "$(dirname "$0")/.."
 . examples/program.sh
@@ -42,13 +47,16 @@ if command -v rustc >/dev/null 2>&1; then
     rust_objects+=("$work/rust-$offset.o")
   done
   rust_options=(-DWITH_RUST)
+  rust_version=$(rustc --version)
 else
+  rust_version='no rustc'
   echo 'there is no rustc: nothing is compared with Rust'
 fi
 
 # timed COMPILER: makes the program that times the loops, and runs it
 timed() {
-  local compile=("$1" -std=c11 -O2 "-I$loops" "-I$work") objects=("${rust_objects[@]}") name offset
+  local compile=("$1" -std=c11 -O2 "-I$loops" "-I$work") name offset
+  local objects=(${rust_objects[@]+"${rust_objects[@]}"})
   for offset in $offsets; do
     "${compile[@]}" "-DOFFSET=$offset" -c "$loops/hand.c" -o "$work/hand-$offset.o"
     objects+=("$work/hand-$offset.o")
@@ -58,11 +66,14 @@ timed() {
       objects+=("$work/$name-$offset.o")
     done
   done
-  "${compile[@]}" "${rust_options[@]}" "$loops/time.c" "${objects[@]}" -o "$work/time-$1"
+  "${compile[@]}" ${rust_options[@]+"${rust_options[@]}"} "$loops/time.c" "${objects[@]}" -o "$work/time-$1"
   printf '\n%s\n' "$("$1" --version | head -n 1)"
   "$work/time-$1" "$items" "$rounds"
 }
 
+processor=$(sed -n 's/^model name[[:space:]]*: //p' /proc/cpuinfo 2>/dev/null | head -n 1)
+printf '%s, %s, %s, %s items, %s rounds\n' \
+  "$(date -u +%Y-%m-%d)" "${processor:-$(uname -m)}" "$rust_version" "$items" "$rounds"
 for compiler in gcc clang; do
   if command -v "$compiler" >/dev/null 2>&1; then
     timed "$compiler"

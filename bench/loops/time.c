@@ -3,8 +3,9 @@
    rounds. The least time of each counts.
 
    It takes the numbers of items and of rounds, and prints a line for each loop: the milliseconds of the loop
-   by hand, and how many times as long the emitted loop and Rust's iterators take. It ends with 1 where the
-   results of a loop differ. */
+   by hand, and how many times as long the emitted loop and Rust's iterators take. Where a loop doesn't give
+   the result of the loop by hand, or the emitted one doesn't give one word and return 0, it says so on standard
+   error and ends with 1. */
 #define _POSIX_C_SOURCE 199309L
 #include <stdio.h>
 #include <stdlib.h>
@@ -14,9 +15,12 @@
 #include "pipeline.h"
 
 uint64_t emitted_word;
+uint64_t emitted_words;
 
 enum { OFFSETS = 3, SHORT_COUNT = 3000 };
 enum { EMITTED, HAND, RUST, KINDS };
+
+static const char *const kind_names[KINDS] = {"the emitted loop", "the loop by hand", "Rust's iterators"};
 
 typedef int emitted_loop(const uint64_t *a0, uint64_t n0, const uint64_t *a1, uint64_t n1,
                          const uint64_t *a2, uint64_t n2);
@@ -73,14 +77,18 @@ static int64_t *random_items(int64_t count, uint64_t state) {
   return items;
 }
 
-static int64_t result_of(const struct loop *loop, int kind, int offset) {
+/* Runs a loop, and says whether it gave one result. */
+static int gives(const struct loop *loop, int kind, int offset, int64_t *result) {
   if (kind == EMITTED) {
-    loop->emitted[offset]((const uint64_t *)a, (uint64_t)n, (const uint64_t *)b, (uint64_t)n,
-                          (const uint64_t *)c, SHORT_COUNT);
-    return (int64_t)emitted_word;
+    emitted_words = 0;
+    int returned = loop->emitted[offset]((const uint64_t *)a, (uint64_t)n, (const uint64_t *)b, (uint64_t)n,
+                                         (const uint64_t *)c, SHORT_COUNT);
+    *result = (int64_t)emitted_word;
+    return returned == 0 && emitted_words == 1;
   }
   other_loop *run = kind == HAND ? loop->hand[offset] : loop->rust[offset];
-  return run(a, b, n, c, SHORT_COUNT);
+  *result = run(a, b, n, c, SHORT_COUNT);
+  return 1;
 }
 
 static double now(void) {
@@ -89,26 +97,40 @@ static double now(void) {
   return (double)time.tv_sec * 1e3 + (double)time.tv_nsec / 1e6;
 }
 
-/* Runs a loop in each of its forms once; says whether their results are the same. */
-static int run_forms(const struct loop *loop, int kinds, double least[KINDS]) {
-  int64_t wanted = result_of(loop, HAND, 0);
-  int is_same = 1;
+/* Runs a loop in each of its forms once, and notes the least time of each and whether its result is wrong. */
+static void run_forms(const struct loop *loop, int kinds, double least[KINDS], int is_wrong[KINDS]) {
+  int64_t wanted = 0;
+  gives(loop, HAND, 0, &wanted);
   for (int offset = 0; offset < OFFSETS; offset++) {
     for (int kind = 0; kind < kinds; kind++) {
+      int64_t result = 0;
       double from = now();
-      int64_t result = result_of(loop, kind, offset);
+      int is_given = gives(loop, kind, offset, &result);
       double spent = now() - from;
       if (least[kind] == 0 || spent < least[kind]) {
         least[kind] = spent;
       }
-      is_same = is_same && result == wanted;
+      if (!is_given || result != wanted) {
+        is_wrong[kind] = 1;
+      }
     }
   }
-  return is_same;
+}
+
+/* The number in a word, from 1 to a thousand million. */
+static int64_t number_in(const char *word) {
+  char *end = NULL;
+  long long number = strtoll(word, &end, 10);
+  if (end == word || *end != '\0' || number < 1 || number > 1000000000) {
+    fprintf(stderr, "%s is no number from 1 to 1000000000\n", word);
+    exit(2);
+  }
+  return number;
 }
 
 int main(int count, char **words) {
   static double least[LOOPS][KINDS];
+  static int is_wrong[LOOPS][KINDS];
   int differs = 0;
   int kinds = KINDS;
 #ifndef WITH_RUST
@@ -118,14 +140,14 @@ int main(int count, char **words) {
     fprintf(stderr, "usage: %s ITEMS ROUNDS\n", words[0]);
     return 2;
   }
-  n = atoll(words[1]);
-  int rounds = atoi(words[2]);
+  n = number_in(words[1]);
+  int64_t rounds = number_in(words[2]);
   a = random_items(n, 1);
   b = random_items(n, 2);
   c = random_items(SHORT_COUNT, 3);
-  for (int round = 0; round < rounds; round++) {
+  for (int64_t round = 0; round < rounds; round++) {
     for (int k = 0; k < LOOPS; k++) {
-      differs |= !run_forms(&loops[k], kinds, least[k]);
+      run_forms(&loops[k], kinds, least[k], is_wrong[k]);
     }
   }
   printf("%-20s %10s %14s %12s\n", "loop", "hand, ms", "emitted/hand", "rust/hand");
@@ -137,8 +159,13 @@ int main(int count, char **words) {
       printf("%12s\n", "-");
     }
   }
-  if (differs) {
-    fprintf(stderr, "the results of a loop differ\n");
+  for (int k = 0; k < LOOPS; k++) {
+    for (int kind = 0; kind < kinds; kind++) {
+      if (is_wrong[k][kind]) {
+        fprintf(stderr, "%s: the result of %s is wrong\n", loops[k].name, kind_names[kind]);
+        differs = 1;
+      }
+    }
   }
   return differs;
 }
