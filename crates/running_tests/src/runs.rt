@@ -1,6 +1,6 @@
 //! Runs: pipelines by their loops and as lists, and C texts, over files of values.
 
-use run_transcript::transcript_over;
+use run_transcript::{transcript, transcript_over};
 use std::alloc::Global;
 use strm_num::NoMemory;
 use text_pieces::put;
@@ -33,6 +33,12 @@ const ENDLESS_LEFT: &str =
 const SKIPPING_RIGHT: &str =
     "zip(unfold 0 with i while true yield i next i + 1, range(0, 3) | filter x -> x < 1) | print";
 
+const EMPTY_LEFT: &str =
+    "zip(range(0, 0), unfold 0 with i while true yield i next i + 1 | filter i -> i < 0) | print";
+
+const NEVER_RIGHT: &str =
+    "zip(range(0, 1), unfold 0 with i while true yield i next i + 1 | filter i -> i < 0) | print";
+
 const PLAIN: &str = "input a: array; array a | print";
 
 const INVOICE: &str =
@@ -44,7 +50,7 @@ const FOUR: [(&str, &str); 1] = [("a", "1 2 3 4")];
 
 const FIVE_TWO_ZERO: [(&str, &str); 1] = [("a", "5 2 0")];
 
-const RUNS: [Row; 24] = [
+const RUNS: [Row; 31] = [
     (EVEN_SQUARES, &FOUR, &["run", "p", "a=a"], "20\n[0] "),
     (EVEN_SQUARES, &[("a", "")], &["run", "p", "a=a"], "0\n[0] "),
     (
@@ -97,6 +103,12 @@ const RUNS: [Row; 24] = [
         "[0] ",
     ),
     (
+        "unfold 0 with i while true yield i next i + 1 | take 0 | print",
+        &[],
+        &["run", "p", "--turns", "4"],
+        "[0] ",
+    ),
+    (
         "range(0, 3) | drop 5 | print",
         &[],
         &["run", "p", "--turns", "4"],
@@ -108,6 +120,18 @@ const RUNS: [Row; 24] = [
         &[("a", "7 8 9")],
         &["run", "p", "--turns", "4", "a=a"],
         "7\n8\n9\n[0] ",
+    ),
+    (
+        PLAIN,
+        &[("a", "7 8 9")],
+        &["run", "p", "--turns", "3", "a=a"],
+        "7\n8\n9\n[0] ",
+    ),
+    (
+        PLAIN,
+        &[("a", "7 8 9")],
+        &["run", "p", "--turns", "2", "a=a"],
+        "7\n8\n[5] strymonas: spent: 2\n",
     ),
     (PLAIN, &[("a", "")], &["run", "p", "a=a"], "[0] "),
     (
@@ -164,9 +188,28 @@ const RUNS: [Row; 24] = [
         &["run", "p", "--turns", "7"],
         "0 0\n1 1\n[0] ",
     ),
+    (
+        ENDLESS_LEFT,
+        &[],
+        &["run", "p", "--turns", "2"],
+        "0 0\n[5] strymonas: spent: 2\n",
+    ),
+    (EMPTY_LEFT, &[], &["run", "p", "--turns", "2"], "[0] "),
+    (
+        NEVER_RIGHT,
+        &[],
+        &["run", "p", "--turns", "1000"],
+        "[5] strymonas: spent: 1000\n",
+    ),
+    (
+        SKIPPING_RIGHT,
+        &[],
+        &["run", "p", "--turns", "2"],
+        "0 0\n[5] strymonas: spent: 2\n",
+    ),
 ];
 
-const LISTS: [Row; 9] = [
+const LISTS: [Row; 12] = [
     (
         ENDLESS_LEFT,
         &[],
@@ -196,6 +239,19 @@ const LISTS: [Row; 9] = [
         &[],
         &["model", "p", "--pulls", "1000000"],
         "[12] strymonas: too much\n",
+    ),
+    (
+        NEVER_BELOW,
+        &[],
+        &["model", "p", "--pulls", "999999"],
+        "[5] strymonas: spent: 999999\n",
+    ),
+    (EMPTY_LEFT, &[], &["model", "p", "--pulls", "0"], "[0] "),
+    (
+        NEVER_RIGHT,
+        &[],
+        &["model", "p", "--pulls", "5"],
+        "[5] strymonas: spent: 5\n",
     ),
     (
         SKIPPING_RIGHT,
@@ -316,13 +372,19 @@ const TEXT_A: &str =
 const TEXT_B: &str =
     "#include \"pipeline.h\"\nint pipeline(uint64_t i0) {\n  EMIT(i0);\n  EMIT((0ULL - 1ULL));\n  return 1;\n  return 0;\n}\n";
 
-const C_TEXTS: [Row; 7] = [
+const C_TEXTS: [Row; 8] = [
     (TEXT_A, &[], &["exec", "p"], "[11] strymonas: undefined\n"),
     (
         "#include \"pipeline.h\"\nint pipeline(void) {\n  uint64_t v0 = 0ULL;\n  f(v0);\n  return 0;\n}\n",
         &[],
         &["exec", "p"],
         "[3] strymonas: refused: Syntax at 67\n",
+    ),
+    (
+        "#include \"pipeline.h\"\nint pipeline(void) {\n  uint64_t v0 = 0ULL;\n  v0 = 1ULL + 2ULL;\n  return 0;\n}\n",
+        &[],
+        &["exec", "p"],
+        "[3] strymonas: refused: Syntax at 77\n",
     ),
     (
         "#include \"pipeline.h\"\nint pipeline(void) {\n  uint64_t v0 = 0ULL;\n  EMIT(v1);\n  return 0;\n}\n",
@@ -356,6 +418,63 @@ const C_TEXTS: [Row; 7] = [
     ),
 ];
 
+const REFUSED: [Row; 9] = [
+    (
+        "input a: array;\narray a | map x -> x && true | print",
+        &[],
+        &["run", "p"],
+        "[3] strymonas: refused: Mismatch at 35\n",
+    ),
+    (
+        "range(0, 10 / 2) | print",
+        &[],
+        &["run", "p"],
+        "[3] strymonas: refused: DivisionInOpening at 12\n",
+    ),
+    (
+        "range(0, 9223372036854775808) | print",
+        &[],
+        &["run", "p"],
+        "[3] strymonas: refused: NumberTooLarge at 9\n",
+    ),
+    (
+        "range(0, 1) | map x -> {x, x, x, x, x, x, x, x, x} | print",
+        &[],
+        &["run", "p"],
+        "[3] strymonas: refused: TooWide at 48\n",
+    ),
+    (
+        "range(0, 1) | map x -> {x, x, x, x, x, x, x, x} | print",
+        &[],
+        &["run", "p"],
+        "0 0 0 0 0 0 0 0\n[0] ",
+    ),
+    (
+        "range(0, 3) | map x -> x + | print",
+        &[],
+        &["run", "p"],
+        "[3] strymonas: refused: Syntax at 27\n",
+    ),
+    (
+        "range(0, 3) | map x ->",
+        &[],
+        &["run", "p"],
+        "[3] strymonas: refused: Syntax at 22\n",
+    ),
+    (
+        "",
+        &[],
+        &["run", "p"],
+        "[3] strymonas: refused: Syntax at 0\n",
+    ),
+    (
+        "range(0, 3) | map x -> y | print",
+        &[],
+        &["run", "p"],
+        "[3] strymonas: refused: Unknown at 23\n",
+    ),
+];
+
 const WORDS: [&[&str]; 16] = [
     &[],
     &["check", "p", "q"],
@@ -374,6 +493,20 @@ const WORDS: [&[&str]; 16] = [
     &["bench", "0", "1000001"],
     &["bench", "18446744073709551616", "1"],
 ];
+
+/// A range up to a number in so many parentheses.
+fn enclosed(alloc: Global, depth: u64) -> Result<Vec<u8>, NoMemory> {
+    let mut text = Vec::from_slice(alloc, b"range(0, ")?;
+    for _ in 0..depth {
+        put(&mut text, b"(")?;
+    }
+    put(&mut text, b"1")?;
+    for _ in 0..depth {
+        put(&mut text, b")")?;
+    }
+    put(&mut text, b") | print")?;
+    Ok(text)
+}
 
 /// Whether each row comes out.
 fn come_out(alloc: Global, rows: &[Row]) -> Result<bool, NoMemory> {
@@ -404,6 +537,28 @@ fn inputs_are_as_declared(rt: HostRuntime) {
 #[test]
 fn c_texts_run(rt: HostRuntime) {
     assert!(rt; come_out(rt.alloc(), C_TEXTS.as_slice()).expect(&rt, "memory"));
+}
+
+#[test]
+fn other_texts_are_refused(rt: HostRuntime) {
+    assert!(rt; come_out(rt.alloc(), REFUSED.as_slice()).expect(&rt, "memory"));
+}
+
+#[test]
+fn expressions_may_be_200_deep(rt: HostRuntime) {
+    let text = enclosed(rt.alloc(), 199).expect(&rt, "memory");
+    let got = transcript(rt.alloc(), &["run", "p"], text.as_slice(), 64, 64);
+    assert!(rt;
+        got.expect(&rt, "memory").as_slice() == b"0\n[0] ".as_slice(),
+        "199"
+    );
+    let text = enclosed(rt.alloc(), 200).expect(&rt, "memory");
+    let got = transcript(rt.alloc(), &["run", "p"], text.as_slice(), 64, 64);
+    assert!(rt;
+        got.expect(&rt, "memory").as_slice()
+            == b"[3] strymonas: refused: TooDeep at 208\n".as_slice(),
+        "200"
+    );
 }
 
 #[test]
