@@ -1,5 +1,5 @@
 -- What comes of binding inputs and of placing them, by what was found of all of them.
-use Rattle.std.proofs.Common.{◌≡◌, ◌⊎◌, inl, ⊎_elim, ℕ, ◌+◌, ◌<◌, List, [], ◌∷◌, length, drop, get_or, Option, Some, None, Result, Ok, Err, String, string_bytes, refl, sym, ap, ◌∙◌}
+use Rattle.std.proofs.Common.{◌≡◌, ◌⊎◌, inl, inr, ℕ, ◌+◌, ◌<◌, List, [], ◌∷◌, length, drop, get_or, Option, Some, None, Result, Ok, Err, String, string_bytes, refl, sym, ap, ◌∙◌}
 use Rattle.std.proofs.lemmas.List.{length-map}
 use Rattle.std.specs.Prelude.{slice_get}
 use Rattle.std.specs.declared.alloc.Global.{Global}
@@ -12,14 +12,14 @@ use Rattle.pipe_tree.specs.declared.tree.Decl.{Decl}
 use Rattle.status_lines.specs.declared.statuses.InputName.TheVariants.{Named, Position}
 use Rattle.status_lines.specs.declared.statuses.Status.{Status}
 use Rattle.status_lines.specs.declared.statuses.Status.TheVariants.{NoMemory}
-use Rattle.job_steps.specs.Bindings.{bound, placed, words_fault}
+use Rattle.job_steps.specs.Bindings.{Given, bound, placed, words_fault}
 use Rattle.job_steps.specs.Inputs.{BindsInputs, PlacesInputs, TakesInputs}
 use Rattle.job_steps.specs.Steps.{ComesOf, Is}
+use Rattle.job_steps.proofs.TakenSteps.{first_gives}
 use Rattle.job_inputs.specs.Faults.{absent_fault}
 use Rattle.job_inputs.specs.Givens.{bound_givens, placed_givens, value_for}
 use Rattle.job_inputs.specs.Names.{names_of}
 use Rattle.job_inputs.proofs.Absences.{one_absent, all_bound}
-use Rattle.job_inputs.proofs.Endings.{comes, refused, goes_on}
 use Rattle.job_inputs.proofs.Places.{left_at}
 use Rattle.job_inputs.proofs.Positions.{as_many}
 
@@ -28,22 +28,22 @@ module _ (store : Option Store) (words : List (List ℕ)) (ds : List Decl) (kind
   same_names = rw length-map same
 
   pub names_fail : (s : Status) → (s ≡ NoMemory) ⊎ (absent_fault words (names_of ds) ≡ Some s) → ComesOf (λ (is : List Input). is) (BindsInputs store words (names_of ds) kinds) (Err s)
-  names_fail s h =
-      ⊎_elim (refused (λ (is : List Input). is) (BindsInputs store words (names_of ds) kinds) s)
-      (λ z. let b : bound words (names_of ds) kinds ≡ Err s = rw (right, one_absent words (names_of ds) kinds s same_names z) refl in
-      comes (λ (is : List Input). is) (BindsInputs store words (names_of ds) kinds) s (inl (sym b)))
-      h
+  names_fail NoMemory h = tt
+  names_fail s (inl refused) = absurd cc
+  names_fail s (inr absent) =
+      let b : bound words (names_of ds) kinds ≡ Err s = rw (right, one_absent words (names_of ds) kinds s same_names absent) refl in
+      inl (sym b)
 
   pub names_pass : (end : Result (List Input) Status) → absent_fault words (names_of ds) ≡ None → ComesOf (λ (is : List Input). is) (TakesInputs store [] (bound_givens words (names_of ds) kinds)) end
       → ComesOf (λ (is : List Input). is) (BindsInputs store words (names_of ds) kinds) end
   names_pass end z h =
       let b : bound words (names_of ds) kinds ≡ Ok (bound_givens words (names_of ds) kinds) = rw (right, all_bound words (names_of ds) kinds same_names z) refl in
-      goes_on (λ (is : List Input). is) (Is (bound words (names_of ds) kinds)) (TakesInputs store []) (bound_givens words (names_of ds) kinds) end (sym b) h
+      first_gives (λ (gs : List Given). gs) (λ (is : List Input). is) (Is (bound words (names_of ds) kinds)) (TakesInputs store []) (bound_givens words (names_of ds) kinds) end (sym b) h
 
 pub counts_pass : (store : Option Store) (values : List (String Global)) (kinds : List InputKind) (end : Result (List Input) Status) → length values ≡ length kinds
     → ComesOf (λ (is : List Input). is) (TakesInputs store [] (placed_givens 0 (texts_of values) kinds)) end → ComesOf (λ (is : List Input). is) (PlacesInputs store (texts_of values) kinds) end
 counts_pass store values kinds end same h =
-    goes_on (λ (is : List Input). is) (Is (placed 0 (texts_of values) kinds)) (TakesInputs store []) (placed_givens 0 (texts_of values) kinds) end (sym (as_many values kinds same)) h
+    first_gives (λ (gs : List Given). gs) (λ (is : List Input). is) (Is (placed 0 (texts_of values) kinds)) (TakesInputs store []) (placed_givens 0 (texts_of values) kinds) end (sym (as_many values kinds same)) h
 
 -- ---- what is given at a place
 

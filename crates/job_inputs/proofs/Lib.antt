@@ -1,5 +1,5 @@
 pub mod Places
 pub mod Absences
 pub mod Positions
-pub mod Endings
+pub mod TakenInputs
 pub mod Bounds

@@ -26,7 +26,7 @@ use Rattle.job_steps.specs.CTexts.{LoadsC}
 use Rattle.job_steps.specs.Loads.{Loads}
 use Rattle.job_steps.specs.Bindings.{Given, bound_value, words_fault, unless_fault, with_given, with_value, values_of, bound, placed}
 use Rattle.job_steps.specs.Inputs.{int_of, ReadsArray, TakesKind, TakesInputs, BindsInputs, PlacesInputs}
-use Rattle.job_steps.specs.Jobs.{PreparesPipeline, PreparesC, PreparesJob, Prepares}
+use Rattle.job_steps.specs.Jobs.{BindsWork, PlacesWork, Prepares, PreparesC, PreparesJob, PreparesPipeline}
 use Rattle.job_steps.specs.Works.{Work, Counting, Compiling, Running, Executing, Listing, Benching}
 use Rattle.job_steps.proofs.ValueWords.{value_word, passed_words}
 
@@ -155,7 +155,7 @@ module _ (stands : StandsWhereTyped) (store : Option Store) where
   pipeline_fits : (file : List ℕ) (words : List (List ℕ)) (of : Pipeline → List Input → Work) → ((p : Pipeline) (inputs : List Input) → Fits inputs p.inputs → InputsFit (of p inputs))
       → (work : Work) → PreparesPipeline store file words of (Ok work) → InputsFit work
   pipeline_fits file words of fit work h =
-      let loaded = passed (LoadsPipeline store file) (λ s. Then (BindsInputs store words s.names s.pipeline.inputs) (λ inputs. Is (Ok (of s.pipeline inputs)))) work h in
+      let loaded = passed (LoadsPipeline store file) (BindsWork store words of) work h in
       let s = loaded.0 in
       let kinds = s.pipeline.inputs in
       work_fits (BindsInputs store words s.names kinds) (of s.pipeline) (λ inputs binds.
@@ -163,7 +163,7 @@ module _ (stands : StandsWhereTyped) (store : Option Store) where
 
   program_fits : (file : List ℕ) (values : List (List ℕ)) (turns : ℕ) (work : Work) → PreparesC store file values turns (Ok work) → InputsFit work
   program_fits file values turns work h =
-      let loaded = passed (LoadsC store file) (λ q. Then (PlacesInputs store values q.params) (λ inputs. Is (Ok (Executing q inputs turns)))) work h in
+      let loaded = passed (LoadsC store file) (PlacesWork store values turns) work h in
       let q = loaded.0 in
       work_fits (PlacesInputs store values q.params) (λ inputs. Executing q inputs turns) (λ inputs places.
       given_fit store (placed 0 values q.params) q.params (placed_are 0 values q.params) inputs places) work loaded.1.1

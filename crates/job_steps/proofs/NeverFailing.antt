@@ -22,7 +22,7 @@ use Rattle.job_steps.specs.Pipelines.{HasTokens, HasTree, HasKinds, ReadsPipelin
 use Rattle.job_steps.specs.CTexts.{ReadsC, LoadsC}
 use Rattle.job_steps.specs.Bindings.{Given, is_among, is_bound, bound_value, word_fault, words_fault, unless_fault, with_given, with_value, values_of, bound, placed}
 use Rattle.job_steps.specs.Inputs.{int_of, ReadsArray, TakesKind, TakesInput, TakesInputs, BindsInputs, PlacesInputs}
-use Rattle.job_steps.specs.Jobs.{PreparesPipeline, PreparesC, PreparesJob, Prepares}
+use Rattle.job_steps.specs.Jobs.{BindsWork, PlacesWork, Prepares, PreparesC, PreparesJob, PreparesPipeline}
 use Rattle.job_steps.specs.Works.{Work, Counting, Compiling, Running, Executing, Listing}
 
 -- the step doesn't fail with the status
@@ -124,12 +124,12 @@ module _ (store : Option Store) where
 
   bound_work_never : (file : List ℕ) (words : List (List ℕ)) (of : Pipeline → List Input → Work) → Never Words (PreparesPipeline store file words of)
   bound_work_never file words of =
-      then_never Words (LoadsPipeline store file) (λ s. Then (BindsInputs store words s.names s.pipeline.inputs) (λ inputs. Is (Ok (of s.pipeline inputs)))) (pipeline_never file) (λ s.
+      then_never Words (LoadsPipeline store file) (BindsWork store words of) (pipeline_never file) (λ s.
       work_never (BindsInputs store words s.names s.pipeline.inputs) (of s.pipeline) (given_never (bound words s.names s.pipeline.inputs) (bound_never words s.names s.pipeline.inputs)))
 
   placed_work_never : (file : List ℕ) (values : List (List ℕ)) (turns : ℕ) → Never Words (PreparesC store file values turns)
   placed_work_never file values turns =
-      then_never Words (LoadsC store file) (λ q. Then (PlacesInputs store values q.params) (λ inputs. Is (Ok (Executing q inputs turns)))) (program_never file) (λ q.
+      then_never Words (LoadsC store file) (PlacesWork store values turns) (program_never file) (λ q.
       work_never (PlacesInputs store values q.params) (λ inputs. Executing q inputs turns) (given_never (placed 0 values q.params) (placed_never 0 values q.params)))
 
   no_job : (words : List (List ℕ)) (job : Option Job) → PreparesJob store words job (Err Words) → job ≡ None

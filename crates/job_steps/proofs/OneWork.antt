@@ -28,7 +28,7 @@ use Rattle.job_steps.specs.Pipelines.{Source, LoadsPipeline, ReadsPipeline}
 use Rattle.job_steps.specs.CTexts.{LoadsC, ReadsC}
 use Rattle.job_steps.specs.Bindings.{Given, bound, placed}
 use Rattle.job_steps.specs.Inputs.{int_of, ReadsArray, TakesKind, TakesInput, TakesInputs, BindsInputs, PlacesInputs}
-use Rattle.job_steps.specs.Jobs.{PreparesPipeline, PreparesC, PreparesJob, Prepares}
+use Rattle.job_steps.specs.Jobs.{BindsWork, PlacesWork, Prepares, PreparesC, PreparesJob, PreparesPipeline}
 use Rattle.job_steps.specs.Works.{Work, Counting, Compiling, Running, Executing, Listing, Benching}
 use Rattle.job_steps.specs.Answers.{IsOneUnlessUnread}
 use Rattle.job_steps.proofs.OneEnd.{AreOneOrUnread, ComesToOne, IsAnswered, IsUnread, answered_one, is_one, one_by, then_one}
@@ -140,12 +140,12 @@ module _ (one_lexing : OneLexing) (one_tree : OneTree) (one_program : OneProgram
 
   bound_one : (file : List ℕ) (words : List (List ℕ)) (of : Pipeline → List Input → Work) → ComesToOne (PreparesPipeline (Some store) file words of)
   bound_one file words of =
-      then_one Source Work (LoadsPipeline (Some store) file) (λ s. Then (BindsInputs (Some store) words s.names s.pipeline.inputs) (λ inputs. Is (Ok (of s.pipeline inputs)))) (pipeline_one file) (λ s.
+      then_one Source Work (LoadsPipeline (Some store) file) (BindsWork (Some store) words of) (pipeline_one file) (λ s.
       work_one (BindsInputs (Some store) words s.names s.pipeline.inputs) (of s.pipeline) (given_one one_array store (bound words s.names s.pipeline.inputs)))
 
   placed_one : (file : List ℕ) (values : List (List ℕ)) (turns : ℕ) → ComesToOne (PreparesC (Some store) file values turns)
   placed_one file values turns =
-      then_one Routine Work (LoadsC (Some store) file) (λ q. Then (PlacesInputs (Some store) values q.params) (λ inputs. Is (Ok (Executing q inputs turns)))) (program_one file) (λ q.
+      then_one Routine Work (LoadsC (Some store) file) (PlacesWork (Some store) values turns) (program_one file) (λ q.
       work_one (PlacesInputs (Some store) values q.params) (λ inputs. Executing q inputs turns) (given_one one_array store (placed 0 values q.params)))
 
   job_one : (words : List (List ℕ)) (job : Option Job) → ComesToOne (PreparesJob (Some store) words job)

@@ -6,6 +6,7 @@ use Rattle.count_lines.specs.CountLines.{bench_lines}
 use Rattle.command_words.specs.declared.jobs.TheConstants.{DEFAULT_TURNS, MOST_BENCH_ITEMS}
 use Rattle.event_texts.specs.Texts.{events_text}
 use Rattle.job_files.specs.Sources.{source_of}
+use Rattle.job_steps.proofs.Benches.{OnePipeline}
 use Rattle.job_steps.specs.Pipelines.{IsPipelineFile, HasRefusal, ReadsPipeline, Source}
 use Rattle.job_steps.specs.Steps.{ComesOf}
 use Rattle.job_steps.specs.Works.{Benching, Ends, IsRun, IsSeen, Running, status_at}
@@ -122,9 +123,6 @@ module _ (is_file : IsPipelineFile bench_text bench_pipeline) (seed count : ℕ)
       does_more (λ end text. (end ≡ status.Done) × (text ≡ bench_lines p count row)) (Ends (Benching seed count)) out out' faults faults' s lines_end h
 
 -- ---- reading the text
-
-abbrev pub OnePipeline : Type 0
-OnePipeline = (src : List ℕ) (p q : Pipeline) → IsPipelineFile src p → IsPipelineFile src q → p ≡ q
 
 abbrev pub OneRefusal : Type 0
 OneRefusal = (src : List ℕ) (a b : Option Refusal) → HasRefusal src a → HasRefusal src b → a ≡ b

@@ -4,12 +4,10 @@ ghost use Rattle.std.specs.Prelude.{◌≡◌, ◌≤◌, Some, Ok, drop};
 ghost use Rattle.command_words.specs.Commands.{IsWithin, file_of, texts_of};
 ghost use Rattle.job_files.specs.Sources.{named_of};
 ghost use Rattle.job_steps.specs.Answers.{AnswersSteps, HasCause};
-ghost use Rattle.job_steps.specs.CTexts.{LoadsC};
-ghost use Rattle.job_steps.specs.Inputs.{BindsInputs, PlacesInputs};
-ghost use Rattle.job_steps.specs.Jobs.{PreparesJob};
+ghost use Rattle.job_steps.specs.Jobs.{BindsWork, PlacesWork, PreparesC, PreparesJob, PreparesPipeline};
 ghost use Rattle.job_steps.specs.Pipelines.{LoadsPipeline};
 ghost use Rattle.job_steps.specs.Steps.{Is, Then};
-ghost use Rattle.job_steps.specs.Works.{Counting, Compiling, Executing};
+ghost use Rattle.job_steps.specs.Works.{Counting, Compiling};
 ghost use Rattle.loop_ir.specs.Routines.{routine_of};
 ghost use Rattle.job_work.specs.Ways.{work_of};
 
@@ -93,9 +91,7 @@ fn show_source<F: Files, O: Sink>(
     out: &mut O,
 ) -> Status
     ensures answers { AnswersSteps
-        (Then (BindsInputs (F.holds files.old) (texts_of words.now) (named_of source.now).names
-        source.now.program.inputs)
-        (λ inputs. Is (Ok (work_of way (named_of source.now).pipeline inputs))))
+        (BindsWork (F.holds files.old) (texts_of words.now) (work_of way) (named_of source.now))
         (O.written out.old) (O.written out.new) result }
     ensures cause { HasCause (F.misses files.old) (F.misses files.new)
         (F.faults files.old) (F.faults files.new) (O.faults out.old) (O.faults out.new) result }
@@ -122,9 +118,7 @@ fn show_file<F: Files, O: Sink>(
     out: &mut O,
 ) -> Status
     ensures answers { AnswersSteps
-        (Then (LoadsPipeline (F.holds files.old) name.now) (λ s.
-        Then (BindsInputs (F.holds files.old) (texts_of words.now) s.names s.pipeline.inputs)
-        (λ inputs. Is (Ok (work_of way s.pipeline inputs)))))
+        (PreparesPipeline (F.holds files.old) name.now (texts_of words.now) (work_of way))
         (O.written out.old) (O.written out.new) result }
     ensures cause { HasCause (F.misses files.old) (F.misses files.new)
         (F.faults files.old) (F.faults files.new) (O.faults out.old) (O.faults out.new) result }
@@ -150,8 +144,7 @@ fn execute_on<F: Files, O: Sink>(
     out: &mut O,
 ) -> Status
     ensures answers { AnswersSteps
-        (Then (PlacesInputs (F.holds files.old) (texts_of values.now) program.now.params)
-        (λ inputs. Is (Ok (Executing (routine_of program.now) inputs turns))))
+        (PlacesWork (F.holds files.old) (texts_of values.now) turns (routine_of program.now))
         (O.written out.old) (O.written out.new) result }
     ensures cause { HasCause (F.misses files.old) (F.misses files.new)
         (F.faults files.old) (F.faults files.new) (O.faults out.old) (O.faults out.new) result }
@@ -177,9 +170,7 @@ fn execute_file<F: Files, O: Sink>(
     out: &mut O,
 ) -> Status
     ensures answers { AnswersSteps
-        (Then (LoadsC (F.holds files.old) name.now) (λ q.
-        Then (PlacesInputs (F.holds files.old) (texts_of values.now) q.params)
-        (λ inputs. Is (Ok (Executing q inputs turns)))))
+        (PreparesC (F.holds files.old) name.now (texts_of values.now) turns)
         (O.written out.old) (O.written out.new) result }
     ensures cause { HasCause (F.misses files.old) (F.misses files.new)
         (F.faults files.old) (F.faults files.new) (O.faults out.old) (O.faults out.new) result }

@@ -7,7 +7,7 @@ use Rattle.job_steps.specs.Inputs.{TakesInputs}
 use Rattle.job_inputs.specs.Givens.{bound_givens}
 use Rattle.job_inputs.specs.Names.{names_of}
 use Rattle.job_inputs.proofs.Bounds.{bound_left}
-use Rattle.job_inputs.proofs.Endings.{take_fails, take_goes}
+use Rattle.job_inputs.proofs.TakenInputs.{take_fails, take_goes}
 use Rattle.job_inputs.proofs.inputs.take_bound.Goals as goal
 
 pub returns-in_err-input-clause-takes : goal.returns-in_err-input-clause-takes

@@ -6,7 +6,7 @@ use Rattle.job_steps.specs.Bindings.{Given}
 use Rattle.job_steps.specs.Inputs.{TakesInputs}
 use Rattle.job_inputs.specs.Givens.{placed_givens}
 use Rattle.job_inputs.proofs.Bounds.{placed_left}
-use Rattle.job_inputs.proofs.Endings.{take_fails, take_goes}
+use Rattle.job_inputs.proofs.TakenInputs.{take_fails, take_goes}
 use Rattle.job_inputs.proofs.inputs.take_placed.Goals as goal
 
 pub returns-in_err-input-clause-takes : goal.returns-in_err-input-clause-takes
