@@ -1,14 +1,11 @@
 -- What running the pipeline of the bench gives: its lists come to an end within the turns.
-use Rattle.std.proofs.Common.{◌≡◌, ◌≤◌, ◌+◌, ◌*◌, inl, inr, ℕ, List, [], ◌∷◌, ◌++◌, Option, Some, None, Ok, Err, refl, sym, ap, subst, ◌∙◌, arith}
+use Rattle.std.proofs.Common.{◌≡◌, ◌≤◌, ◌+◌, ◌*◌, inl, inr, ℕ, List, [], ◌∷◌, ◌++◌, Option, Some, refl, sym, ap, subst, ◌∙◌, arith}
 use Rattle.bench_pipeline.specs.Pipelines.{bench_inputs, bench_pipeline}
 use Rattle.bench_pipeline.specs.Texts.{bench_text}
 use Rattle.count_lines.specs.CountLines.{bench_lines}
 use Rattle.command_words.specs.declared.jobs.TheConstants.{DEFAULT_TURNS, MOST_BENCH_ITEMS}
 use Rattle.event_texts.specs.Texts.{events_text}
-use Rattle.job_files.specs.Sources.{source_of}
-use Rattle.job_steps.proofs.Benches.{OnePipeline}
-use Rattle.job_steps.specs.Pipelines.{IsPipelineFile, HasRefusal, ReadsPipeline, Source}
-use Rattle.job_steps.specs.Steps.{ComesOf}
+use Rattle.job_steps.specs.Pipelines.{IsPipelineFile}
 use Rattle.job_steps.specs.Works.{Benching, Ends, IsRun, IsSeen, Running, status_at}
 use Rattle.job_work.specs.Working.{Does}
 use Rattle.job_work.proofs.DoneWork.{does_more}
@@ -20,9 +17,8 @@ use Rattle.list_denotation.specs.Observation.{Done, Seen, observation}
 use Rattle.list_denotation.specs.Terms.{Pipeline}
 use Rattle.list_denotation.specs.Work.{work}
 use Rattle.pipe_limits.specs.declared.TheConstants.{MOST_ITEMS}
-use Rattle.status_lines.specs.declared.refusals.Refusal.{Refusal}
 use Rattle.status_lines.specs.declared.statuses.Status.{Status}
-use Rattle.status_lines.specs.declared.statuses.Status.TheVariants.{Missing, NoMemory, ReadFault, Refused, WriteFault}
+use Rattle.status_lines.specs.declared.statuses.Status.TheVariants.{Missing, NoMemory, ReadFault, WriteFault}
 use Rattle.status_lines.specs.declared.statuses.Status.TheVariants as status
 
 -- ---- what is known of the bench
@@ -121,35 +117,3 @@ module _ (is_file : IsPipelineFile bench_text bench_pipeline) (seed count : ℕ)
       → Does (Ends (Benching seed count)) out out' faults faults' s
   lines_done out out' faults faults' s h =
       does_more (λ end text. (end ≡ status.Done) × (text ≡ bench_lines p count row)) (Ends (Benching seed count)) out out' faults faults' s lines_end h
-
--- ---- reading the text
-
-abbrev pub OneRefusal : Type 0
-OneRefusal = (src : List ℕ) (a b : Option Refusal) → HasRefusal src a → HasRefusal src b → a ≡ b
-
--- reading fails by refusals alone
-fails_by_refusal : (src : List ℕ) (s : Status) → ReadsPipeline src (Err s) → (refusal : Refusal) × (s ≡ Refused refusal)
-fails_by_refusal src (Refused refusal) h = (refusal, refl)
-fails_by_refusal src s (inl h) = absurd h
-fails_by_refusal src s (inr (toks, (lexed, inl h))) = absurd h
-fails_by_refusal src s (inr (toks, (lexed, inr h))) = absurd h.1.1
-
-module _ (is_file : IsPipelineFile bench_text bench_pipeline) (src : List ℕ) (is : src ≡ bench_text) where
-  read_file : IsPipelineFile src bench_pipeline
-  read_file = subst (λ (bytes : List ℕ). IsPipelineFile bytes bench_pipeline) (sym is) is_file
-
-  pub read_is : OnePipeline → (source : Source) → ReadsPipeline src (Ok source) → source.pipeline ≡ bench_pipeline
-  read_is one source h =
-      one src source.pipeline bench_pipeline (record { within = read_file.within; names = source.names; reads = h }) read_file
-
-  never_refused : OneRefusal → (s : Status) → ReadsPipeline src (Err s) → ⊥
-  never_refused one s h =
-      let by = fails_by_refusal src s h in
-      let refused = subst (λ (t : Status). ReadsPipeline src (Err t)) by.1 h in
-      let e = one src None (Some by.0) (record { names = read_file.names; pipeline = bench_pipeline }, read_file.reads) refused in
-      cc
-
-  -- what reading fails by is want of memory
-  pub unread_end : OneRefusal → (seed count : ℕ) (s : Status) → ComesOf source_of (ReadsPipeline src) (Err s) → (out : Option (List ℕ)) (n : ℕ) → Does (Ends (Benching seed count)) out out n n s
-  unread_end one seed count NoMemory h out n = refl
-  unread_end one seed count s h out n = absurd (never_refused one s h)

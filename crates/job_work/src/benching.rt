@@ -1,22 +1,21 @@
-//! The bench: its pipeline is read from text as that of a file is, and run on the items of a seed.
+//! The bench: its pipeline is run on the items of a seed.
 
 ghost use Rattle.std.specs.Prelude.{◌≡◌, ◌≤◌, [], IfOk};
 ghost use Rattle.bench_pipeline.specs.Pipelines.{bench_inputs, bench_pipeline};
+ghost use Rattle.bench_pipeline.specs.Texts.{bench_text};
 ghost use Rattle.command_words.specs.declared.jobs.TheConstants.{MOST_BENCH_ITEMS};
 ghost use Rattle.count_lines.specs.CountLines.{bench_lines};
+ghost use Rattle.job_steps.specs.Pipelines.{IsPipelineFile};
 ghost use Rattle.job_steps.specs.Works.{Benching, Ends};
 ghost use Rattle.job_work.specs.Working.{Does};
 ghost use Rattle.list_denotation.specs.Pipelines.{pipeline_of};
 
 use crate::working::{run, write};
-use bench_pipeline::{
-    bench_inputs_fit, bench_is_little_work, bench_shows_one_row, bench_text, bench_values,
-};
+use bench_pipeline::{bench_inputs_fit, bench_is_little_work, bench_shows_one_row, bench_values};
 use bench_reading::bench_text_is_its_pipeline;
 use command_words::DEFAULT_TURNS;
 use count_lines::bench_lines;
-use job_files::read_pipeline;
-use job_steps::{files_are_one_pipeline, files_have_one_refusal, runs_follow_the_lists};
+use job_steps::{files_are_one_pipeline, runs_follow_the_lists};
 use list_denotation::{Input, Inputs, Program};
 use status_lines::Status;
 use std::alloc::Global;
@@ -85,20 +84,23 @@ fn bench_on<O: Sink>(
     }
 }
 
-/// Runs the pipeline of the bench on so many items of a seed, and writes the lines.
-fn bench_program<O: Sink>(
+/// Runs the pipeline of the bench on so many items of a seed, and writes the lines. The program is the one
+/// that the text of the bench stands for.
+pub fn bench<O: Sink>(
     alloc: Global,
     program: &Program,
     seed: u64,
     count: u64,
     out: &mut O,
 ) -> Status
-    requires program { pipeline_of program.now ≡ bench_pipeline }
+    requires program { IsPipelineFile bench_text (pipeline_of program.now) }
     requires few { count ≤ MOST_BENCH_ITEMS }
     ensures does { Does (Ends (Benching seed count))
         (O.written out.old) (O.written out.new) (O.faults out.old) (O.faults out.new) result }
     ensures faults { O.faults out.old ≤ O.faults out.new }
 {
+    bench_text_is_its_pipeline();
+    files_are_one_pipeline();
     match (
         inputs_of(alloc, seed, count),
         MemSink::with_room(alloc, ROW_BYTES),
@@ -107,21 +109,5 @@ fn bench_program<O: Sink>(
             bench_on(alloc, program, &inputs, seed, count, &mut row, out)
         }
         _ => Status::NoMemory,
-    }
-}
-
-/// Reads the text of the bench, runs its pipeline on so many items of a seed, and writes the lines.
-pub fn bench<O: Sink>(alloc: Global, seed: u64, count: u64, out: &mut O) -> Status
-    requires { count ≤ MOST_BENCH_ITEMS }
-    ensures does { Does (Ends (Benching seed count))
-        (O.written out.old) (O.written out.new) (O.faults out.old) (O.faults out.new) result }
-    ensures faults { O.faults out.old ≤ O.faults out.new }
-{
-    bench_text_is_its_pipeline();
-    files_are_one_pipeline();
-    files_have_one_refusal();
-    match read_pipeline(alloc, bench_text().as_bytes()) {
-        Ok(source) => bench_program(alloc, &source.program, seed, count, out),
-        Err(status) => status,
     }
 }

@@ -7,8 +7,8 @@
 //!
 //! It depends on stateful_core, loop_emit and c_printer for the way from a pipeline to loops and to their C
 //! text, on loop_interp for running these, on list_model for computing lists, on count_lines and event_texts
-//! for what is written, on bench_pipeline and bench_reading for the bench, on job_files for reading its text,
-//! and on job_steps and status_lines for the definitions and the statuses.
+//! for what is written, on bench_pipeline and bench_reading for the bench, and on job_steps and status_lines
+//! for the definitions and the statuses.
 #![tactic(auto)]
 
 mod benching;

@@ -1,3 +1,4 @@
+pub mod BenchTexts
 pub mod InputNames
 pub mod JobAnswers
 pub mod StatusConditions

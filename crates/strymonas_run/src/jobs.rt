@@ -1,19 +1,24 @@
 //! What each command does: its steps, and then its work.
 
 ghost use Rattle.std.specs.Prelude.{◌≡◌, ◌≤◌, Some, Ok, drop};
+ghost use Rattle.command_words.specs.declared.jobs.TheConstants.{MOST_BENCH_ITEMS};
 ghost use Rattle.command_words.specs.Commands.{IsWithin, file_of, texts_of};
 ghost use Rattle.job_files.specs.Sources.{named_of};
 ghost use Rattle.job_steps.specs.Answers.{AnswersSteps, HasCause};
 ghost use Rattle.job_steps.specs.Jobs.{BindsWork, PlacesWork, PreparesC, PreparesJob, PreparesPipeline};
 ghost use Rattle.job_steps.specs.Pipelines.{LoadsPipeline};
 ghost use Rattle.job_steps.specs.Steps.{Is, Then};
-ghost use Rattle.job_steps.specs.Works.{Counting, Compiling};
+ghost use Rattle.job_steps.specs.Works.{Benching, Counting, Compiling, Ends};
 ghost use Rattle.loop_ir.specs.Routines.{routine_of};
 ghost use Rattle.job_work.specs.Ways.{work_of};
+ghost use Rattle.job_work.specs.Working.{Does};
 
+use bench_pipeline::bench_text;
+use bench_reading::bench_text_is_its_pipeline;
 use command_words::Job;
-use job_files::{Source, loaded_c, loaded_pipeline};
+use job_files::{Source, loaded_c, loaded_pipeline, read_pipeline};
 use job_inputs::{bound_inputs, placed_inputs};
+use job_steps::files_have_one_refusal;
 use job_work::{Way, bench, compile, count, execute, show};
 use loop_ir::Prog;
 use status_lines::Status;
@@ -185,6 +190,22 @@ fn execute_file<F: Files, O: Sink>(
     }
 }
 
+/// Reads the text of the bench as that of a file is read, runs its pipeline on so many items of a seed, and
+/// writes the lines.
+fn bench_items<O: Sink>(alloc: Global, seed: u64, count: u64, out: &mut O) -> Status
+    requires { count ≤ MOST_BENCH_ITEMS }
+    ensures does { Does (Ends (Benching seed count))
+        (O.written out.old) (O.written out.new) (O.faults out.old) (O.faults out.new) result }
+    ensures faults { O.faults out.old ≤ O.faults out.new }
+{
+    bench_text_is_its_pipeline();
+    files_have_one_refusal();
+    match read_pipeline(alloc, bench_text().as_bytes()) {
+        Ok(source) => bench(alloc, &source.program, seed, count, out),
+        Err(status) => status,
+    }
+}
+
 /// Does what a job asks for, by the words that it was read from.
 pub fn do_job<F: Files, O: Sink>(
     alloc: Global,
@@ -231,6 +252,6 @@ pub fn do_job<F: Files, O: Sink>(
                 out,
             )
         }
-        Job::Bench { seed, count } => bench(alloc, seed, count, out),
+        Job::Bench { seed, count } => bench_items(alloc, seed, count, out),
     }
 }

@@ -41,5 +41,5 @@ returns-in-Model-clause-answers g c =
 
 pub returns-in-Bench-clause-answers : goal.returns-in-Bench-clause-answers
 returns-in-Bench-clause-answers g c =
-    let worked_on = worked (Benching c.in-Bench.seed c.in-Bench.count) (g.O.Sink.written c.args.out.now) (g.O.Sink.written c.bench.new.out) _ _ c.bench.result c.bench.ensures.does in
-    subst (λ (j : Job). AnswersSteps (PreparesJob (g.F.Files.holds c.args.files.now) (texts_of c.args.words.now) (Some j)) (g.O.Sink.written c.args.out.now) (g.O.Sink.written c.bench.new.out) c.bench.result) (sym c.in-Bench.is) worked_on
+    let worked_on = worked (Benching c.in-Bench.seed c.in-Bench.count) (g.O.Sink.written c.args.out.now) (g.O.Sink.written c.bench_items.new.out) _ _ c.bench_items.result c.bench_items.ensures.does in
+    subst (λ (j : Job). AnswersSteps (PreparesJob (g.F.Files.holds c.args.files.now) (texts_of c.args.words.now) (Some j)) (g.O.Sink.written c.args.out.now) (g.O.Sink.written c.bench_items.new.out) c.bench_items.result) (sym c.in-Bench.is) worked_on
