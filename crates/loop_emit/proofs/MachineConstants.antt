@@ -87,7 +87,7 @@ module _ (laws : Laws) (may : InputNames) (init : List Term) (guard : Term) (act
       let terminal_is = is_terminal laws may init guard acts item terminal is in
       let behind = behind_states laws may init guard acts item terminal is in
       let within = behind_turn laws may init guard acts item terminal is in
-      let states : length state_vars ≡ 0 + length init = omega (arith, states_width laws may init guard acts item terminal is) in
+      let states : length state_vars ≡ 0 + length init + 0 = omega (arith, states_width laws may init guard acts item terminal is) in
       let guarded = guard_constants (omega (arith, behind, within, few)) in
       let condition = emission.machine_guard temps init guard (turn_acts acts item) (length item) terminal in
       let piece = emission.turn_piece temps init guard (turn_acts acts item) (length item) terminal in
@@ -96,7 +96,7 @@ module _ (laws : Laws) (may : InputNames) (init : List Term) (guard : Term) (act
       let first_state = emission.first_state temps init guard (turn_acts acts item) (length item) terminal in
       let loop = emission.loop_block temps init guard (turn_acts acts item) (length item) terminal in
       let taken : IsTrue (block_has_words piece.block) =
-      laws.turn_constants 0 (length init) 0 temps (emission.first_local temps init guard (turn_acts acts item) (length item) terminal) state_vars (finish_tail terminal held_vars (length item)) (finish_stop terminal held_vars) acts item
+      laws.turn_constants 0 (length init) 0 0 temps (emission.first_local temps init guard (turn_acts acts item) (length item) terminal) state_vars (finish_tail terminal held_vars (length item)) (finish_stop terminal held_vars) acts item
       (is_turn laws may init guard acts item terminal is) states
       (finish_stop_constants laws may temps (length item) terminal held_vars)
       (finish_tail_constants laws may temps (length item) terminal temps terminal_is) in

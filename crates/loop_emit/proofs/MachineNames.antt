@@ -170,8 +170,8 @@ module _ (laws : Laws) (kinds : List InputKind) (init : List Term) (guard : Term
   turn_names : IsTrue (block_names all_names (emission.turn_piece temps init guard (turn_acts acts item) (length item) terminal).block)
   turn_names =
       let terminal_is = is_terminal laws (declared_inputs kinds) init guard acts item terminal is in
-      let states : length state_vars ≡ 0 + length init = omega (arith, states_width laws (declared_inputs kinds) init guard acts item terminal is) in
-      laws.turn_names kinds all_vars 0 (length init) 0 temps first_local state_vars (finish_tail terminal held_vars (length item)) (finish_stop terminal held_vars) acts item
+      let states : length state_vars ≡ 0 + length init + 0 = omega (arith, states_width laws (declared_inputs kinds) init guard acts item terminal is) in
+      laws.turn_names kinds all_vars 0 (length init) 0 0 temps first_local state_vars (finish_tail terminal held_vars (length item)) (finish_stop terminal held_vars) acts item
       (is_turn laws (declared_inputs kinds) init guard acts item terminal is) states (states_below first_local behind) (omega (arith, behind)) named_parts.acting named_parts.giving
       (finish_stop_names laws kinds all_vars temps (length item) temps terminal (held_below all_vars (omega (arith, behind, within))))
       (λ row n all le same room.

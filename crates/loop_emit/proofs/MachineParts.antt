@@ -1,5 +1,5 @@
 -- What follows of the parts of a machine that are well formed, and of a terminal over its rows.
-use Rattle.std.proofs.Common.{◌≡◌, ℕ, ◌+◌, ◌<◌, ◌≤◌, ◌^◌, Bool, true, false, ◌&&◌, List, [], length, All, Contains, subst, arith}
+use Rattle.std.proofs.Common.{◌≡◌, ℕ, ◌+◌, ◌<◌, ◌≤◌, ◌^◌, Bool, true, false, ◌&&◌, List, [], length, All, Contains, sym, subst, append-nil, arith}
 use Rattle.std.specs.Prelude.{IsTrue, if◌then◌else◌}
 use Rattle.std.proofs.lemmas.List.FromFn.{length-range_with_len}
 use Rattle.strm_num.proofs.Truths.{both_true}
@@ -120,13 +120,11 @@ module _ (laws : Laws) (may : InputNames) (init : List Term) (guard : Term) (act
         few = omega arith;
       }
 
-  pub is_turn : IsTurn 0 (length init) temps acts item
+  pub is_turn : IsTurn 0 (length init) 0 temps acts item
   is_turn =
-      let words : 0 + length init + 0 ≡ 0 + length init = omega arith in
-      let locals : 0 + length init + 0 + actions_locals acts ≡ 0 + length init + actions_locals acts = omega arith in
       record {
-        acts_sound = subst (λ n. IsTrue (are_sound_actions (length init) n acts)) words sound_parts.acting;
-        item_sound = subst (λ n. IsTrue (all_sure n item)) locals sound_parts.giving;
+        acts_sound = sound_parts.acting;
+        item_sound = sound_parts.giving;
         acts_words = word_parts.acting;
         item_words = word_parts.giving;
         acts_few = omega arith;
@@ -162,15 +160,16 @@ module _ (laws : Laws) (may : InputNames) (init : List Term) (guard : Term) (act
   abbrev pub frame : Frame
   frame = record { first_temp = 0; temps = temps; next = first_local }
 
-  pub turn_layout : vars < 2 ^ 32 → IsTurnLayout frame [] state_vars held_vars
+  pub turn_layout : vars < 2 ^ 32 → IsTurnLayout frame [] state_vars [] held_vars
   turn_layout few =
       record {
-        laid_out = laid_out first_local behind_states (omega (arith, few, behind_turn));
+        laid_out = subst (λ vs. IsLaidOut vs 0 temps first_local) (sym (append-nil state_vars)) (laid_out first_local behind_states (omega (arith, few, behind_turn)));
         states_differ = λ i j lt lt' same.
             let at = range_at first_state (length init) i (omega (arith, lt, states_width)) in
             let at' = range_at first_state (length init) j (omega (arith, lt', states_width)) in
             omega (arith, at, at', same);
         scope_differs = all_none (λ v. ¬ Contains state_vars v);
+        row_differs = all_none (λ v. ¬ Contains state_vars v);
         held_given = all_held (IsWordVariable 0 temps first_local) (λ x low high. word_variable first_local x low (omega (arith, high, behind_states)));
-        held_differs = all_held (λ v. ¬ Contains state_vars v) (λ x low high there. let between = range_contains first_state (length init) x there in omega (arith, high, between.0));
+        held_differs = subst (λ vs. All (λ v. ¬ Contains vs v) held_vars) (sym (append-nil state_vars)) (all_held (λ v. ¬ Contains state_vars v) (λ x low high there. let between = range_contains first_state (length init) x there in omega (arith, high, between.0)));
       }

@@ -87,9 +87,9 @@ room_for laws may init guard acts item terminal is few row =
     let turn = is_turn laws may init guard acts item terminal is in
     let terminal_is = is_terminal laws may init guard acts item terminal is in
     let within = behind_turn laws may init guard acts item terminal is in
-    let words : 0 + length init ≡ length init = omega arith in
-    let locals : 0 + length init + actions_locals acts ≡ length init + actions_locals acts = omega arith in
-    let item_bound = (both_true (all_bound (0 + length init + actions_locals acts) item) (all_undivided item) turn.item_sound).0 in
+    let words : 0 + length init + 0 ≡ length init = omega arith in
+    let locals : 0 + length init + 0 + actions_locals acts ≡ length init + actions_locals acts = omega arith in
+    let item_bound = (both_true (all_bound (0 + length init + 0 + actions_locals acts) item) (all_undivided item) turn.item_sound).0 in
     let acts_few = turn.acts_few in
     let item_few = turn.item_few in
     record {

@@ -11,22 +11,23 @@ use Rattle.list_denotation.specs.InputNames.{InputNames}
 use Rattle.list_denotation.specs.Observation.{finish_rows}
 use Rattle.list_denotation.specs.Terms.{Term, Finish}
 use Rattle.list_denotation.specs.Values.{Is}
-use Rattle.loop_ir.specs.Meaning.{Runs, after, test_value, run, seen_of, meaning}
+use Rattle.loop_ir.specs.Meaning.{Runs, after, then_do, test_value, run, seen_of, meaning}
 use Rattle.loop_ir.specs.Statements.{Loop, Block, Cons, join}
-use Rattle.loop_ir.proofs.Joins.{after_nothing, goes_on, is_over}
+use Rattle.loop_ir.proofs.Joins.{after_nothing, run_join, goes_on, is_over}
 use Rattle.expr_lower.specs.Contract.{is_true}
 use Rattle.expr_forms.specs.Forms.{Condition}
+use Rattle.stateful_core.specs.Actions.{run_acts}
 use Rattle.stateful_core.specs.CoreRows.{core_turn, guard_value, core_rows}
 use Rattle.stateful_core.specs.CoreTerms.{Actions, Lin}
 use Rattle.stateful_core.specs.Turns.{Turn, turn_rows}
 use Rattle.stateful_core.specs.WordValues.{word_values}
 use Rattle.turn_blocks.specs.Pieces.{Piece}
 use Rattle.turn_blocks.specs.TurnBlocks.{acts_piece, turn_acts}
-use Rattle.turn_blocks.specs.TurnContract.{Consumer, TurnEnd, Goes, Ends, turn_end_of, IsIn, HasWordInputs, TurnRuns, IsTurnLayout, IsTurn}
+use Rattle.turn_blocks.specs.TurnContract.{Taker, consumer_of, come_to, TurnEnd, Goes, Ends, turn_end_of, IsIn, HasWordInputs, TurnRuns, IsTurnLayout, IsTurn}
 use Rattle.loop_emit.specs.Emission as emission
 use Rattle.loop_emit.specs.Emission.{finish_tail, finish_stop, finish_ending, finish_openings, openings, routine_for}
 use Rattle.loop_emit.specs.Laws.{Laws}
-use Rattle.loop_emit.specs.SeenRows.{finish_consumer, first_held}
+use Rattle.loop_emit.specs.SeenRows.{finish_taker, first_held}
 use Rattle.loop_emit.proofs.LoopGuards.{looks}
 use Rattle.loop_emit.proofs.LoopTurns.{TurnEnds, IsLoopOf, loop_seen}
 use Rattle.loop_emit.proofs.MachineParts.{IsEmittable, is_terminal, init_open, is_guard, is_turn, states_width, behind_states, behind_turn, all_states, all_held, laid_out, frame, turn_layout}
@@ -73,8 +74,8 @@ module _ (laws : Laws) (may : InputNames) (init : List Term) (guard : Term) (act
   abbrev ending : Block
   ending = finish_ending terminal held_vars
 
-  abbrev consumer : Consumer
-  consumer = finish_consumer terminal held_vars inputs
+  abbrev taker : Taker
+  taker = finish_taker terminal held_vars inputs
 
   abbrev truth : List ℕ → ℕ
   truth = guard_value guard [] inputs
@@ -82,10 +83,14 @@ module _ (laws : Laws) (may : InputNames) (init : List Term) (guard : Term) (act
   abbrev turn : List ℕ → Turn (List ℕ)
   turn s = core_turn acts item [] inputs s []
 
+  -- the state that the acts of a turn come to
+  abbrev come : List ℕ → List ℕ
+  come s = come_to (run_acts acts [] inputs s [])
+
   record Stands (state held env : List ℕ) : Type 0 where
     size : length env ≡ vars
     states : IsIn env state_vars state
-    holds : IsIn env consumer.vars held
+    holds : IsIn env taker.vars held
     tells : test_value inputs condition.test env ≡ Is (is_true (truth state))
 
   -- ---- the guard
@@ -96,7 +101,7 @@ module _ (laws : Laws) (may : InputNames) (init : List Term) (guard : Term) (act
     runs : (left : ℕ) → run inputs condition.block env left ≡ Runs [] env' left
     stands : Stands state held env'
 
-  looked_at : (env state held : List ℕ) → length env ≡ vars → IsIn env state_vars state → IsIn env consumer.vars held → IsLookedAt env state held
+  looked_at : (env state held : List ℕ) → length env ≡ vars → IsIn env state_vars state → IsIn env taker.vars held → IsLookedAt env state held
   looked_at env state held size states holds =
       let behind = behind_states laws may init guard acts item terminal is in
       let within = behind_turn laws may init guard acts item terminal is in
@@ -121,43 +126,50 @@ module _ (laws : Laws) (may : InputNames) (init : List Term) (guard : Term) (act
 
   -- ---- a turn
 
-  turn_runs : (state held env : List ℕ) → Stands state held env → TurnRuns inputs (frame laws may init guard acts item terminal is) consumer state_vars turn_statements env (turn_end_of consumer held (turn state))
-  turn_runs state held env stands =
+  turn_runs : (state held env : List ℕ) (left : ℕ) → Stands state held env → TurnRuns inputs (frame laws may init guard acts item terminal is) (consumer_of taker held left) state_vars turn_statements env (turn_end_of (consumer_of taker held left) (come state) (turn state))
+  turn_runs state held env left stands =
       let frame = frame laws may init guard acts item terminal is in
       let tail = finish_tail terminal held_vars (length item) in
       let stop = finish_stop terminal held_vars in
       let size = stands.size in
       let first = frame.next in
       let piece : ℕ → Piece = λ n. acts_piece 0 n 0 stop tail None (turn_acts acts item) state_vars first in
-      let layout = subst (λ vs. IsTurnLayout frame [] state_vars vs) (sym (consumer_vars terminal temps inputs)) (turn_layout laws may init guard acts item terminal is few) in
-      let whole : IsTurn 0 (length state_vars) temps acts item → (piece (length state_vars)).next ≤ length env → TurnRuns inputs frame consumer state_vars (piece (length state_vars)).block env (turn_end_of consumer held (turn state)) =
+      let nothing : IsIn env [] [] = record { there = refl; are_words = all_none IsWord } in
+      let layout = subst (λ vs. IsTurnLayout frame [] state_vars [] vs) (sym (consumer_vars terminal temps inputs)) (turn_layout laws may init guard acts item terminal is few) in
+      let at : List ℕ → Type 0 = λ rows.
+      (acts_piece 0 (length state_vars) 0 stop tail None (turn_acts acts item) rows first).next ≤ length env
+      → TurnRuns inputs frame (consumer_of taker held left) state_vars (acts_piece 0 (length state_vars) 0 stop tail None (turn_acts acts item) rows first).block env (turn_end_of (consumer_of taker held left) (come state) (turn state)) in
+      let whole : IsTurn 0 (length state_vars) 0 temps acts item → (piece (length state_vars)).next ≤ length env → TurnRuns inputs frame (consumer_of taker held left) state_vars (piece (length state_vars)).block env (turn_end_of (consumer_of taker held left) (come state) (turn state)) =
       λ is_turn room.
-      laws.turns frame [] state_vars consumer tail stop acts item inputs [] state held env layout is_turn
-      (is_tail laws may temps (length item) terminal temps inputs has (is_terminal laws may init guard acts item terminal is))
+      subst at (append-nil state_vars)
+      (λ fits.
+      laws.turns frame [] state_vars [] (consumer_of taker held left) tail stop acts item inputs [] state [] env layout is_turn
+      (is_tail laws may temps (length item) terminal temps inputs held left has (is_terminal laws may init guard acts item terminal is))
       (tail_width terminal held_vars (length item))
-      (is_stop laws may temps (length item) inputs terminal held_vars)
-      has (record { there = refl; are_words = all_none IsWord }) stands.states stands.holds room (omega (arith, size, few)) in
-      subst (λ n. IsTurn 0 n temps acts item → (piece n).next ≤ length env → TurnRuns inputs frame consumer state_vars (piece n).block env (turn_end_of consumer held (turn state)))
+      (is_stop laws may temps (length item) inputs terminal held_vars held left)
+      has nothing stands.states nothing stands.holds fits (omega (arith, size, few))) room in
+      subst (λ n. IsTurn 0 n 0 temps acts item → (piece n).next ≤ length env → TurnRuns inputs frame (consumer_of taker held left) state_vars (piece n).block env (turn_end_of (consumer_of taker held left) (come state) (turn state)))
       (states_width laws may init guard acts item terminal is) whole
       (is_turn laws may init guard acts item terminal is) (omega (arith, size))
 
-  turn_ends : (state held env : List ℕ) → Stands state held env → TurnEnds inputs consumer Stands truth turn condition.test body ending env (turn_end_of consumer held (turn state))
-  turn_ends state held env stands = by_end (turn_end_of consumer held (turn state)) (turn_runs state held env stands)
+  turn_ends : (state held env : List ℕ) (left : ℕ) → Stands state held env → TurnEnds inputs taker Stands truth turn come condition.test body ending left env (turn_end_of (consumer_of taker held left) (come state) (turn state))
+  turn_ends state held env left stands = by_end (turn_end_of (consumer_of taker held left) (come state) (turn state)) (turn_runs state held env left stands)
     where
-      by_end : (t : TurnEnd) → TurnRuns inputs (frame laws may init guard acts item terminal is) consumer state_vars turn_statements env t → TurnEnds inputs consumer Stands truth turn condition.test body ending env t
-      by_end (Goes events state' held') leads =
+      by_end : (t : TurnEnd) → TurnRuns inputs (frame laws may init guard acts item terminal is) (consumer_of taker held left) state_vars turn_statements env t → TurnEnds inputs taker Stands truth turn come condition.test body ending left env t
+      by_end (Goes events state' held' left') leads =
           let again = looked_at leads.env' state' held' (leads.same ∙ stands.size) leads.states leads.holds in
           record {
             env' = again.env';
-            runs = λ left.
-                goes_on inputs turn_statements condition.block events env leads.env' left (leads.runs left)
-                ∙ ap (after events) (again.runs left)
-                ∙ ap (λ e. Runs e again.env' left) (append-nil events);
+            runs =
+                run_join inputs turn_statements condition.block env left
+                ∙ ap (λ o. then_do o (run inputs condition.block)) leads.runs
+                ∙ ap (after events) (again.runs left')
+                ∙ ap (λ e. Runs e again.env' left') (append-nil events);
             stands = again.stands;
           }
-      by_end (Ends events standing) over = λ left. is_over inputs turn_statements condition.block events standing env left (over left)
+      by_end (Ends events standing) over = is_over inputs turn_statements condition.block events standing env left over
 
-  is_loop : IsLoopOf inputs consumer Stands truth turn condition.test body ending
+  is_loop : IsLoopOf inputs taker Stands truth turn come condition.test body ending
   is_loop = record {
     tells = λ state held env stands. stands.tells;
     turns_end = turn_ends;
@@ -172,7 +184,7 @@ module _ (laws : Laws) (may : InputNames) (init : List Term) (guard : Term) (act
     runs : run inputs (emission.body_block temps init guard (turn_acts acts item) (length item) terminal) (replicate vars 0) left ≡ run inputs (emission.loop_block temps init guard (turn_acts acts item) (length item) terminal) env left
     size : length env ≡ vars
     states : IsIn env state_vars (word_values init [] inputs)
-    holds : IsIn env consumer.vars (first_held terminal inputs)
+    holds : IsIn env taker.vars (first_held terminal inputs)
 
   is_opened : (left : ℕ) → IsOpened left
   is_opened left =
@@ -207,5 +219,5 @@ module _ (laws : Laws) (may : InputNames) (init : List Term) (guard : Term) (act
       let loop = emission.loop_block temps init guard (turn_acts acts item) (length item) terminal in
       ap seen_of opens.runs
       ∙ ap seen_of (passes_on inputs condition.block (Cons (Loop condition.test body) ending) opens.env start.env' n (start.runs n))
-      ∙ loop_seen inputs consumer Stands truth turn condition.test body ending is_loop n state held start.env' start.stands
+      ∙ loop_seen inputs taker Stands truth turn come condition.test body ending is_loop n state held start.env' start.stands
       ∙ finished laws inputs terminal held_vars (turn_rows truth turn n state) (opens_undivided laws may temps (length item) terminal (is_terminal laws may init guard acts item terminal is))

@@ -13,10 +13,10 @@ use Rattle.list_denotation.specs.Terms.{Term, Finish, Fold, Print}
 use Rattle.denotation_laws.specs.StreamScopes.{FinishReadsScope}
 use Rattle.loop_ir.specs.Meaning.{Runs, after, run}
 use Rattle.turn_blocks.specs.Consumers.{print_block, IsFold}
-use Rattle.turn_blocks.specs.TurnContract.{words_at, IsIn, HasWordInputs, IsTailOf, IsStopOf}
+use Rattle.turn_blocks.specs.TurnContract.{consumer_of, words_at, IsIn, HasWordInputs, IsTailOf, IsStopOf}
 use Rattle.loop_emit.specs.Emission.{finish_temps, held_count, finish_tail, finish_stop, finish_ending, finish_openings}
 use Rattle.loop_emit.specs.Laws.{Laws}
-use Rattle.loop_emit.specs.SeenRows.{finish_consumer, first_held}
+use Rattle.loop_emit.specs.SeenRows.{finish_taker, first_held}
 use Rattle.loop_emit.proofs.OpenedWords.{AreOpen, Opens, opened}
 use Rattle.loop_emit.proofs.SeenRows.{OpensUndivided}
 use Rattle.loop_emit.proofs.Variables.{all_none, distinct_range}
@@ -37,7 +37,7 @@ no_inputs = record { ints = λ k. omega arith; items = λ k. all_none IsWord; le
 abbrev pub held_from : Finish → ℕ → List ℕ
 held_from t a = range_with_len a (held_count t)
 
-pub consumer_vars : (t : Finish) (a : ℕ) (inputs : List Input) → (finish_consumer t (held_from t a) inputs).vars ≡ held_from t a
+pub consumer_vars : (t : Finish) (a : ℕ) (inputs : List Input) → (finish_taker t (held_from t a) inputs).vars ≡ held_from t a
 consumer_vars (Fold seed next) a inputs = refl
 consumer_vars Print a inputs = refl
 
@@ -69,20 +69,20 @@ module _ (laws : Laws) (may : InputNames) (temps width : ℕ) where
   opens_undivided (Fold seed next) is = is.reads.seed_reads.undivided
   opens_undivided Print is = tt
 
-  pub is_tail : (t : Finish) (a : ℕ) (inputs : List Input) → HasWordInputs inputs → IsTerminal may temps width t → IsTailOf inputs 0 temps (finish_consumer t (held_from t a) inputs) (finish_tail t (held_from t a) width)
-  is_tail (Fold seed next) a inputs has is = laws.folds inputs 0 temps width (range_with_len a (length seed)) next has (is_fold seed next a is)
-  is_tail Print a inputs has is = laws.prints inputs 0 temps width
+  pub is_tail : (t : Finish) (a : ℕ) (inputs : List Input) (held : List ℕ) (left : ℕ) → HasWordInputs inputs → IsTerminal may temps width t → IsTailOf inputs 0 temps [] [] (consumer_of (finish_taker t (held_from t a) inputs) held left) (finish_tail t (held_from t a) width)
+  is_tail (Fold seed next) a inputs held left has is = laws.folds inputs 0 temps width left [] [] (range_with_len a (length seed)) held next has (is_fold seed next a is)
+  is_tail Print a inputs held left has is = laws.prints inputs 0 temps width left [] [] held
 
   pub tail_grows : (t : Finish) (a : ℕ) → IsTerminal may temps width t → (row : List ℕ) (n : ℕ) → n ≤ ((finish_tail t (held_from t a) width).piece row n).next
-  tail_grows t a is row n = (is_tail t a [] no_inputs is).grows n row
+  tail_grows t a is row n = (is_tail t a [] [] 0 no_inputs is).grows n row
 
   module _ (inputs : List Input) where
-    pub is_stop : (t : Finish) (vars : List ℕ) → IsStopOf inputs (finish_consumer t vars inputs) (finish_stop t vars)
-    is_stop (Fold seed next) vars = laws.fold_stops inputs vars next
-    is_stop Print vars = laws.print_stops inputs
+    pub is_stop : (t : Finish) (vars held : List ℕ) (left : ℕ) → IsStopOf inputs 0 temps (consumer_of (finish_taker t vars inputs) held left) (finish_stop t vars)
+    is_stop (Fold seed next) vars held left = laws.fold_stops inputs 0 temps left vars held next
+    is_stop Print vars held left = laws.print_stops inputs 0 temps left held
 
     -- behind the loop it shows what it holds
-    pub shows : (t : Finish) (a : ℕ) (held env : List ℕ) (left : ℕ) → IsIn env (finish_consumer t (held_from t a) inputs).vars held → run inputs (finish_ending t (held_from t a)) env left ≡ Runs ((finish_consumer t (held_from t a) inputs).ending held) env left
+    pub shows : (t : Finish) (a : ℕ) (held env : List ℕ) (left : ℕ) → IsIn env (finish_taker t (held_from t a) inputs).vars held → run inputs (finish_ending t (held_from t a)) env left ≡ Runs ((finish_taker t (held_from t a) inputs).ending held) env left
     shows (Fold seed next) a held env left is =
         row_printed inputs (range_with_len a (length seed)) env left ∙ ap (λ ws. Runs (row_events ws []) env left) is.there
     shows Print a held env left is = refl

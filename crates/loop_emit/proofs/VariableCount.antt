@@ -81,9 +81,9 @@ few_variables laws may init guard acts item terminal d is shallow =
     let state_vars = emission.state_vars temps init guard (turn_acts acts item) (length item) terminal in
     let held_vars = emission.held_vars temps init guard (turn_acts acts item) (length item) terminal in
     let first_local = emission.first_local temps init guard (turn_acts acts item) (length item) terminal in
-    let states : length state_vars ≡ 0 + length init = omega (arith, states_width laws may init guard acts item terminal is) in
+    let states : length state_vars ≡ 0 + length init + 0 = omega (arith, states_width laws may init guard acts item terminal is) in
     let few =
-    laws.turn_few 0 (length init) 0 temps first_local (most_of laws terminal) state_vars (finish_tail terminal held_vars (length item)) (finish_stop terminal held_vars) acts item
+    laws.turn_few 0 (length init) 0 0 temps first_local (most_of laws terminal) state_vars (finish_tail terminal held_vars (length item)) (finish_stop terminal held_vars) acts item
     (is_turn laws may init guard acts item terminal is) states (most_for_row laws terminal temps (length item)) in
     let held = few_held laws may (length item) terminal is.reads in
     let held_few = held.0 in

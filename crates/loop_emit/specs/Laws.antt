@@ -32,14 +32,15 @@ use Rattle.expr_lower.specs.Contract.{Scope, value_block, condition_block, condi
 use Rattle.expr_lower.specs.Costs.{temps_of}
 use Rattle.expr_forms.specs.Forms.{is_empty}
 use Rattle.expr_lower.specs.Scopes.{WordsInPlace, ScopeInPlace, MayNameWords}
+use Rattle.stateful_core.specs.Actions.{run_acts}
 use Rattle.stateful_core.specs.CoreLeaves.{actions_leaves}
 use Rattle.stateful_core.specs.CoreRows.{core_turn}
 use Rattle.stateful_core.specs.CoreTerms.{Actions}
 use Rattle.stateful_core.specs.MostWords.{actions_words}
-use Rattle.turn_blocks.specs.Consumers.{print_consumer, print_tail, print_stop, fold_consumer, fold_tail, fold_stop, IsFold}
+use Rattle.turn_blocks.specs.Consumers.{print_taker, print_tail, print_stop, fold_taker, fold_tail, fold_stop, IsFold}
 use Rattle.turn_blocks.specs.Pieces.{Tail}
 use Rattle.turn_blocks.specs.TurnBlocks.{acts_piece, turn_acts}
-use Rattle.turn_blocks.specs.TurnContract.{Consumer, turn_end_of, IsIn, HasWordInputs, Frame, IsTailOf, IsStopOf, TurnRuns, IsTurnLayout, IsTurn}
+use Rattle.turn_blocks.specs.TurnContract.{Consumer, consumer_of, come_to, turn_end_of, IsIn, HasWordInputs, Frame, IsTailOf, IsStopOf, TurnRuns, IsTurnLayout, IsTurn}
 
 pub record Laws : Type 0 where
   -- of typed programs
@@ -91,24 +92,27 @@ pub record Laws : Type 0 where
       → MayNameWords may scope.rows e → IsTrue (names_inputs may.inputs e)
       → IsTrue (test_names may (condition_test scope e scratch))
   -- of the statements of a turn
-  pub turns : (frame : Frame) (scope_vars state_vars : List ℕ) (c : Consumer) (tail : Tail)
+  pub turns : (frame : Frame) (scope_vars state_vars row_vars : List ℕ) (c : Consumer) (tail : Tail)
       (stop : Block) (acts : Actions) (item : List Term) (inputs : List Input)
-      (scope_words state held env : List ℕ)
-      → IsTurnLayout frame scope_vars state_vars c.vars
-      → IsTurn (length scope_vars) (length state_vars) frame.temps acts item
-      → IsTailOf inputs frame.first_temp frame.temps c tail → tail.width ≡ length item
-      → IsStopOf inputs c stop → HasWordInputs inputs
-      → IsIn env scope_vars scope_words → IsIn env state_vars state → IsIn env c.vars held
+      (scope_words state row env : List ℕ)
+      → IsTurnLayout frame scope_vars state_vars row_vars c.vars
+      → IsTurn (length scope_vars) (length state_vars) (length row_vars) frame.temps acts item
+      → IsTailOf inputs frame.first_temp frame.temps scope_vars scope_words c tail
+      → tail.width ≡ length item
+      → IsStopOf inputs frame.first_temp frame.temps c stop → HasWordInputs inputs
+      → IsIn env scope_vars scope_words → IsIn env state_vars state → IsIn env row_vars row
+      → IsIn env c.vars c.held
       → (acts_piece (length scope_vars) (length state_vars) frame.first_temp stop tail None
-      (turn_acts acts item) (scope_vars ++ state_vars) frame.next).next ≤ length env
+      (turn_acts acts item) (scope_vars ++ (state_vars ++ row_vars)) frame.next).next ≤ length env
       → length env < 2 ^ 32
       → TurnRuns inputs frame c state_vars
       (acts_piece (length scope_vars) (length state_vars) frame.first_temp stop tail None
-      (turn_acts acts item) (scope_vars ++ state_vars) frame.next).block env
-      (turn_end_of c held (core_turn acts item scope_words inputs state []))
-  pub turn_names : (kinds : List InputKind) (vars scope states first_temp temps next : ℕ)
+      (turn_acts acts item) (scope_vars ++ (state_vars ++ row_vars)) frame.next).block env
+      (turn_end_of c (come_to (run_acts acts scope_words inputs state row))
+      (core_turn acts item scope_words inputs state row))
+  pub turn_names : (kinds : List InputKind) (vars scope states locals first_temp temps next : ℕ)
       (rows : List ℕ) (tail : Tail) (stop : Block) (acts : Actions) (item : List Term)
-      → IsTurn scope states temps acts item → length rows ≡ scope + states
+      → IsTurn scope states locals temps acts item → length rows ≡ scope + states + locals
       → All (λ v. v < next) rows → first_temp + temps ≤ next
       → IsTrue (actions_leaves (is_named_leaf (declared_inputs kinds)) acts)
       → IsTrue (all_name_inputs (declared_inputs kinds) item)
@@ -121,16 +125,16 @@ pub record Laws : Type 0 where
       → (acts_piece scope states first_temp stop tail None (turn_acts acts item) rows next).next ≤ vars
       → IsTrue (block_names (declared_names kinds vars)
       (acts_piece scope states first_temp stop tail None (turn_acts acts item) rows next).block)
-  pub turn_constants : (scope states first_temp temps next : ℕ) (rows : List ℕ) (tail : Tail)
+  pub turn_constants : (scope states locals first_temp temps next : ℕ) (rows : List ℕ) (tail : Tail)
       (stop : Block) (acts : Actions) (item : List Term)
-      → IsTurn scope states temps acts item → length rows ≡ scope + states
+      → IsTurn scope states locals temps acts item → length rows ≡ scope + states + locals
       → IsTrue (block_has_words stop)
       → ((row : List ℕ) (n : ℕ) → IsTrue (block_has_words (tail.piece row n).block))
       → IsTrue (block_has_words
       (acts_piece scope states first_temp stop tail None (turn_acts acts item) rows next).block)
-  pub turn_few : (scope states first_temp temps next most : ℕ) (rows : List ℕ) (tail : Tail)
+  pub turn_few : (scope states locals first_temp temps next most : ℕ) (rows : List ℕ) (tail : Tail)
       (stop : Block) (acts : Actions) (item : List Term)
-      → IsTurn scope states temps acts item → length rows ≡ scope + states
+      → IsTurn scope states locals temps acts item → length rows ≡ scope + states + locals
       → ((row : List ℕ) (n : ℕ) → (tail.piece row n).next ≤ n + most)
       → (acts_piece scope states first_temp stop tail None (turn_acts acts item) rows next).next
       ≤ next + actions_words scope acts + length item + most
@@ -138,14 +142,19 @@ pub record Laws : Type 0 where
       (acts : Actions) → ((row : List ℕ) (n : ℕ) → n ≤ (tail.piece row n).next)
       → next ≤ (acts_piece scope states first_temp stop tail None acts rows next).next
   -- of what is done with rows
-  pub prints : (inputs : List Input) (first_temp temps width : ℕ)
-      → IsTailOf inputs first_temp temps print_consumer (print_tail width)
-  pub print_stops : (inputs : List Input) → IsStopOf inputs print_consumer print_stop
-  pub folds : (inputs : List Input) (first_temp temps width : ℕ) (vars : List ℕ)
-      (next : List Term) → HasWordInputs inputs → IsFold vars width temps next
-      → IsTailOf inputs first_temp temps (fold_consumer vars next inputs) (fold_tail vars first_temp width next)
-  pub fold_stops : (inputs : List Input) (vars : List ℕ) (next : List Term)
-      → IsStopOf inputs (fold_consumer vars next inputs) (fold_stop vars)
+  pub prints : (inputs : List Input) (first_temp temps width left : ℕ)
+      (scope_vars scope_words held : List ℕ)
+      → IsTailOf inputs first_temp temps scope_vars scope_words (consumer_of print_taker held left) (print_tail width)
+  pub print_stops : (inputs : List Input) (first_temp temps left : ℕ) (held : List ℕ)
+      → IsStopOf inputs first_temp temps (consumer_of print_taker held left) print_stop
+  pub folds : (inputs : List Input) (first_temp temps width left : ℕ)
+      (scope_vars scope_words vars held : List ℕ) (next : List Term)
+      → HasWordInputs inputs → IsFold vars width temps next
+      → IsTailOf inputs first_temp temps scope_vars scope_words
+      (consumer_of (fold_taker vars next inputs) held left) (fold_tail vars first_temp width next)
+  pub fold_stops : (inputs : List Input) (first_temp temps left : ℕ) (vars held : List ℕ)
+      (next : List Term)
+      → IsStopOf inputs first_temp temps (consumer_of (fold_taker vars next inputs) held left) (fold_stop vars)
   pub print_few : (width n : ℕ) (row : List ℕ) → ((print_tail width).piece row n).next ≡ n
   pub fold_few : (vars row : List ℕ) (first_temp width n : ℕ) (next : List Term)
       → ((fold_tail vars first_temp width next).piece row n).next ≤ n + length next

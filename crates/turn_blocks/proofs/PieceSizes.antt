@@ -16,7 +16,7 @@ use Rattle.stateful_core.specs.CoreTerms.{Let, Read, KeepIf, StopUnless, Update,
 use Rattle.stateful_core.specs.MostWords.{is_other_leaf, is_written_straight, actions_words}
 use Rattle.turn_blocks.specs.Pieces.{Piece, Tail, behind, last, mark, nowhere, behind_scratch}
 use Rattle.turn_blocks.specs.StateBlocks.{is_word, word_block, word_needs, words_piece}
-use Rattle.turn_blocks.specs.TurnBlocks.{tested, constant_truth, is_none, let_piece, test_piece, update_piece, acts_piece}
+use Rattle.turn_blocks.specs.TurnBlocks.{tested, known_truth, is_none, let_piece, test_piece, update_piece, acts_piece}
 use Rattle.turn_blocks.specs.WordUses.{avoids, row_avoids, never_go_on, may_wait, LetUse, Tested, Unused, Own, let_use}
 use Rattle.turn_blocks.specs.WordUses.{Same as SameWord}
 use Rattle.turn_blocks.proofs.LeafTests.{leaves_of_both, row_of_both}
@@ -94,9 +94,9 @@ module _ (scope states t : ℕ) (stop : Block) where
       let_grows (let_use scope states tail.width (length rows) e acts) e rows next (λ k r n. piece_of tail k acts r n) (λ k r n. acts_grow tail k acts r n h)
   acts_grow tail held (Cons (Read a e) acts) rows next h = let more = acts_grow tail None acts (rows ++ next ∷ []) (next + 1) h in omega (arith, more)
   acts_grow tail held (Cons (KeepIf e) acts) rows next h =
-      test_grows (constant_truth (tested held e)) (lowered_test rows (tested held e) next t) next (λ n. piece_of tail None acts rows n) loop.Nil (λ n. acts_grow tail None acts rows n h)
+      test_grows (known_truth tail.has_loop (tested held e)) (lowered_test rows (tested held e) next t) next (λ n. piece_of tail None acts rows n) loop.Nil (λ n. acts_grow tail None acts rows n h)
   acts_grow tail held (Cons (StopUnless e) acts) rows next h =
-      test_grows (constant_truth (tested held e)) (lowered_test rows (tested held e) next t) next (λ n. piece_of tail None acts rows n) stop (λ n. acts_grow tail None acts rows n h)
+      test_grows (known_truth tail.has_loop (tested held e)) (lowered_test rows (tested held e) next t) next (λ n. piece_of tail None acts rows n) stop (λ n. acts_grow tail None acts rows n h)
   acts_grow tail held (Cons (Update k es) acts) rows next h =
       update_grows (may_wait scope states k es acts) (words_piece rows t (scope + k) es next) next (λ n. piece_of tail None acts rows n)
       (words_grow rows t es (scope + k) next) (λ n. acts_grow tail None acts rows n h)
@@ -200,9 +200,9 @@ module _ (scope states t : ℕ) (stop : Block) where
       let more = let_few (let_use scope states tail.width (length rows) e acts) e rows next (actions_words scope acts + most) (λ k r n. piece_of scope states t stop tail k acts r n) (λ k r n. acts_few tail k acts r n most h) in omega (arith, more)
   acts_few tail held (Cons (Read a e) acts) rows next most h = let more = acts_few tail None acts (rows ++ next ∷ []) (next + 1) most h in omega (arith, more)
   acts_few tail held (Cons (KeepIf e) acts) rows next most h =
-      let more = test_few (constant_truth (tested held e)) (lowered_test rows (tested held e) next t) next (actions_words scope acts + most) (λ n. piece_of scope states t stop tail None acts rows n) loop.Nil (λ n. acts_few tail None acts rows n most h) in omega (arith, more)
+      let more = test_few (known_truth tail.has_loop (tested held e)) (lowered_test rows (tested held e) next t) next (actions_words scope acts + most) (λ n. piece_of scope states t stop tail None acts rows n) loop.Nil (λ n. acts_few tail None acts rows n most h) in omega (arith, more)
   acts_few tail held (Cons (StopUnless e) acts) rows next most h =
-      let more = test_few (constant_truth (tested held e)) (lowered_test rows (tested held e) next t) next (actions_words scope acts + most) (λ n. piece_of scope states t stop tail None acts rows n) stop (λ n. acts_few tail None acts rows n most h) in omega (arith, more)
+      let more = test_few (known_truth tail.has_loop (tested held e)) (lowered_test rows (tested held e) next t) next (actions_words scope acts + most) (λ n. piece_of scope states t stop tail None acts rows n) stop (λ n. acts_few tail None acts rows n most h) in omega (arith, more)
   acts_few tail held (Cons (Update k es) acts) rows next most h =
       let set = words_of_update (is_written_straight (scope + k) es) rows k es next refl in
       let more = update_few (may_wait scope states k es acts) (words_piece rows t (scope + k) es next) next (if is_written_straight (scope + k) es then 0 else length es) (actions_words scope acts + most) (λ n. piece_of scope states t stop tail None acts rows n) set

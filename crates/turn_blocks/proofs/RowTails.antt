@@ -19,16 +19,16 @@ use Rattle.loop_ir.specs.Constants.{block_has_words}
 use Rattle.loop_ir.specs.DeclaredNames.{declared_names, block_names}
 use Rattle.loop_ir.specs.Meaning.{Runs, Over, after, run}
 use Rattle.loop_ir.proofs.Joins.{goes_on}
-use Rattle.state_alloc.specs.Layouts.{IsLaidOut}
+use Rattle.state_alloc.specs.Layouts.{IsWordVariable, IsLaidOut}
 use Rattle.expr_lower.specs.Scopes.{IsInVariable}
-use Rattle.turn_blocks.specs.Consumers.{print_block, done, print_tail, print_consumer, print_stop, fold_tail, fed_by, fold_consumer, fold_stop, IsFold}
+use Rattle.turn_blocks.specs.Consumers.{print_block, done, print_tail, print_taker, print_stop, fold_tail, fed_by, fold_taker, fold_stop, IsFold}
 use Rattle.turn_blocks.specs.Laws.{Laws}
 use Rattle.turn_blocks.specs.StateBlocks.{words_piece}
-use Rattle.turn_blocks.specs.TurnContract.{words_at, IsIn, HasWordInputs, FeedRuns, IsTailOf, IsStopOf}
+use Rattle.turn_blocks.specs.TurnContract.{consumer_of, taken, words_at, IsIn, HasWordInputs, FeedRuns, IsTailOf, IsStopOf}
 use Rattle.turn_blocks.proofs.PieceSizes.{words_grow}
 use Rattle.turn_blocks.proofs.SetWords.{AreFit, AreAlone, Writes, row_writes}
 use Rattle.turn_blocks.proofs.Values.{Readable}
-use Rattle.turn_blocks.proofs.WordLists.{differs_of, in_at, in_word, in_long, is_in}
+use Rattle.turn_blocks.proofs.WordLists.{all_of, each_joined, differs_of, in_at, in_word, in_long, is_in}
 
 -- ---- rows that are printed
 
@@ -36,11 +36,11 @@ print_runs : (inputs : List Input) (vars env : List ℕ) (left : ℕ) → run in
 print_runs inputs [] env left = refl
 print_runs inputs (v ∷ vars) env left = ap (after (event.Emit (slice_index env v) ∷ [])) (print_runs inputs vars env left)
 
-pub prints : (inputs : List Input) (first_temp temps width : ℕ) → IsTailOf inputs first_temp temps print_consumer (print_tail width)
-prints inputs t temps width = record {
-  runs = λ next vars row held env laid_out none long room small row_in held_in. record {
+pub prints : (inputs : List Input) (first_temp temps width left : ℕ) (scope_vars scope_words held : List ℕ) → IsTailOf inputs first_temp temps scope_vars scope_words (consumer_of print_taker held left) (print_tail width)
+prints inputs t temps width left scope_vars scope_words held = record {
+  runs = λ next vars row env laid_out none long room small scope_in row_in held_in. record {
     env' = env;
-    runs = λ left. print_runs inputs vars env left ∙ ap (λ ws. Runs (row_events ws []) env left) row_in.there;
+    runs = print_runs inputs vars env left ∙ ap (λ ws. Runs (row_events ws []) env left) row_in.there;
     same = refl;
     holds = held_in;
     kept = λ v lt apart other. refl;
@@ -48,8 +48,8 @@ prints inputs t temps width = record {
   grows = λ next vars. omega arith;
 }
 
-pub print_stops : (inputs : List Input) → IsStopOf inputs print_consumer print_stop
-print_stops inputs held env left held_in = refl
+pub print_stops : (inputs : List Input) (first_temp temps left : ℕ) (held : List ℕ) → IsStopOf inputs first_temp temps (consumer_of print_taker held left) print_stop
+print_stops inputs t temps left held next env laid_out room small held_in = refl
 
 print_names_below : (kinds : List InputKind) (vars : ℕ) (row : List ℕ) → ((k : ℕ) → k < length row → slice_index row k < vars) → IsTrue (block_names (declared_names kinds vars) (print_block row))
 print_names_below kinds vars [] below = refl
@@ -79,8 +79,22 @@ distinct_at vars i j distinct low high same = elim (cases_lt i j) [
         let no = apart_from_distinct nat_eq vars i j 0 distinct lt high in
         let yes = eq-eqb (slice_index vars i) (slice_index vars j) same in absurd cc
 
-module _ (laws : Laws) (inputs : List Input) (small : HasWordInputs inputs) (t temps width : ℕ) (vars : List ℕ) (next : List Term) (fold : IsFold vars width temps next) where
-  module _ (n : ℕ) (rows row held env : List ℕ) (laid_out : IsLaidOut (vars ++ rows) t temps n) (none : All (λ v. ¬ Contains vars v) rows) (long : length rows ≡ width) (row_in : IsIn env rows row) (held_in : IsIn env vars held) where
+module _ (laws : Laws) (inputs : List Input) (small : HasWordInputs inputs) (t temps width left : ℕ) (scope_vars scope_words vars held : List ℕ) (next : List Term) (fold : IsFold vars width temps next) where
+  module _ (n : ℕ) (rows row env : List ℕ) (laid_out : IsLaidOut (vars ++ (scope_vars ++ rows)) t temps n) (none : All (λ v. ¬ Contains vars v) (scope_vars ++ rows)) (long : length rows ≡ width) (row_in : IsIn env rows row) (held_in : IsIn env vars held) where
+    rows_apart : (j : ℕ) → j < length rows → ¬ Contains vars (slice_index rows j)
+    rows_apart j lt = subst (λ v. ¬ Contains vars v) (get_or-append-add scope_vars rows j 0) (none (length scope_vars + j) 0 (omega (arith, lt, length-append scope_vars rows)))
+
+    -- without the scope
+    near : IsLaidOut (vars ++ rows) t temps n
+    near = record {
+      few = laid_out.few;
+      temporaries = laid_out.temporaries;
+      words = all_of (IsWordVariable t temps n) (vars ++ rows) (each_joined (IsWordVariable t temps n) vars rows
+          (λ k lt. subst (IsWordVariable t temps n) (get_or_append_left vars (scope_vars ++ rows) 0 k lt) (laid_out.words k 0 (omega (arith, lt, length-append vars (scope_vars ++ rows)))))
+          (λ k lt. subst (IsWordVariable t temps n) (get_or-append-add vars (scope_vars ++ rows) (length scope_vars + k) 0 ∙ get_or-append-add scope_vars rows k 0)
+          (laid_out.words (length vars + (length scope_vars + k)) 0 (omega (arith, lt, length-append vars (scope_vars ++ rows), length-append scope_vars rows)))));
+    }
+
     both_long : length (vars ++ rows) ≡ length vars + length rows
     both_long = length-append vars rows
 
@@ -117,7 +131,7 @@ module _ (laws : Laws) (inputs : List Input) (small : HasWordInputs inputs) (t t
         in_row : (j : ℕ) → m ≡ length vars + j → m ≡ i
         in_row j e =
             let less : j < length rows = omega (arith, lt, e, both_long) in
-            absurd (differs_of vars (slice_index rows j) (none j 0 less) i high
+            absurd (differs_of vars (slice_index rows j) (rows_apart j less) i high
             (sym (get_or_append_left vars rows 0 i high) ∙ (sym same ∙ (ap (slice_index (vars ++ rows)) e ∙ get_or-append-add vars rows j 0))))
 
     alone : AreAlone laws inputs small t temps (vars ++ rows) (held ++ row) is_word_leaf 0 (length next)
@@ -129,29 +143,29 @@ module _ (laws : Laws) (inputs : List Input) (small : HasWordInputs inputs) (t t
     fits : AreFit laws inputs small t temps (vars ++ rows) (held ++ row) is_word_leaf next
     fits = record { numbers = fold.are_words; bound = subst (λ m. IsTrue (all_bound m next)) (omega (arith, both_long, long)) fold.bound; few = fold.few; leaves = fold.are_words }
 
-    feeds : (g : Got (List ℕ)) → Writes laws inputs small t temps (vars ++ rows) (held ++ row) (words_piece (vars ++ rows) t 0 next n).block 0 (length next) n env g → FeedRuns inputs (record { first_temp = t; temps = temps; next = n }) (fold_consumer vars next inputs) (words_piece (vars ++ rows) t 0 next n).block env (fed_by g)
+    feeds : (g : Got (List ℕ)) → Writes laws inputs small t temps (vars ++ rows) (held ++ row) (words_piece (vars ++ rows) t 0 next n).block 0 (length next) n env g → FeedRuns inputs (record { first_temp = t; temps = temps; next = n }) (consumer_of (fold_taker vars next inputs) held left) (words_piece (vars ++ rows) t 0 next n).block env (taken left (fed_by g))
     feeds (Is xs) w = record {
       env' = w.env';
-      runs = w.runs;
+      runs = w.runs left;
       same = w.same;
       holds = is_in w.env' vars xs (omega (arith, w.long, fold.same_width))
           (λ i lt. let q : 0 + i ≡ i = omega arith in sym (ap (slice_index w.env') (ap (slice_index (vars ++ rows)) q ∙ get_or_append_left vars rows 0 i lt)) ∙ w.sets i (omega (arith, lt, fold.same_width)))
           (λ i lt. w.are_words i (omega (arith, lt, w.long)));
       kept = λ v lt temporary other. w.kept v lt temporary (λ i low high e. differs_of vars v other i (omega (arith, high, fold.same_width)) (sym (get_or_append_left vars rows 0 i (omega (arith, high, fold.same_width))) ∙ e));
     }
-    feeds (Fails f) w = w
+    feeds (Fails f) w = w left
 
-  pub folds : IsTailOf inputs t temps (fold_consumer vars next inputs) (fold_tail vars t width next)
+  pub folds : IsTailOf inputs t temps scope_vars scope_words (consumer_of (fold_taker vars next inputs) held left) (fold_tail vars t width next)
   folds = record {
-    runs = λ n rows row held env laid_out none long room few row_in held_in.
-        feeds n rows row held env laid_out none long row_in held_in (row_value next (held ++ row) inputs)
-        (row_writes laws inputs small t temps (vars ++ rows) (held ++ row) next 0 n is_word_leaf env laid_out
-        (omega (arith, fold.same_width, length-append vars rows)) (fits n rows row held env laid_out none long row_in held_in) (readable n rows row held env laid_out none long row_in held_in)
-        (alone n rows row held env laid_out none long row_in held_in) (omega (arith, room, words_grow (vars ++ rows) t next 0 n)) room few);
+    runs = λ n rows row env laid_out none long room few scope_in row_in held_in.
+        feeds n rows row env laid_out none long row_in held_in (row_value next (held ++ row) inputs)
+        (row_writes laws inputs small t temps (vars ++ rows) (held ++ row) next 0 n is_word_leaf env (near n rows row env laid_out none long row_in held_in)
+        (omega (arith, fold.same_width, length-append vars rows)) (fits n rows row env laid_out none long row_in held_in) (readable n rows row env laid_out none long row_in held_in)
+        (alone n rows row env laid_out none long row_in held_in) (omega (arith, room, words_grow (vars ++ rows) t next 0 n)) room few);
     grows = λ n rows. words_grow (vars ++ rows) t next 0 n;
   }
 
-pub fold_stops : (inputs : List Input) (vars : List ℕ) (next : List Term) → IsStopOf inputs (fold_consumer vars next inputs) (fold_stop vars)
-fold_stops inputs vars next held env left held_in =
+pub fold_stops : (inputs : List Input) (first_temp temps left : ℕ) (vars held : List ℕ) (next : List Term) → IsStopOf inputs first_temp temps (consumer_of (fold_taker vars next inputs) held left) (fold_stop vars)
+fold_stops inputs t temps left vars held next n env laid_out room small held_in =
     goes_on inputs (print_block vars) done (row_events (words_at env vars) []) env env left (print_runs inputs vars env left)
     ∙ (ap (λ e. Over e Done) (append-nil (row_events (words_at env vars) [])) ∙ ap (λ ws. Over (row_events ws []) Done) held_in.there)

@@ -25,7 +25,7 @@ use Rattle.stateful_core.specs.WellFormed.{is_sure, all_sure, is_sound_action, a
 use Rattle.turn_blocks.specs.Pieces.{Piece, Tail, behind, last, mark, nowhere, behind_scratch, choose}
 use Rattle.turn_blocks.specs.StateBlocks.{is_word, is_whole, is_straight, leaf_block, leaf_needs, word_block, word_needs, words_piece}
 use Rattle.turn_blocks.specs.Temporaries.{row_temps, acts_temps}
-use Rattle.turn_blocks.specs.TurnBlocks.{tested, constant_truth, is_none, let_piece, read_block, test_piece, update_piece, rejoined, acts_piece}
+use Rattle.turn_blocks.specs.TurnBlocks.{tested, known_truth, is_none, let_piece, read_block, test_piece, update_piece, rejoined, acts_piece}
 use Rattle.turn_blocks.specs.WordUses.{row_avoids, never_go_on, may_wait, LetUse, Tested, Unused, Own, let_use}
 use Rattle.turn_blocks.specs.WordUses.{Same as SameWord}
 use Rattle.turn_blocks.proofs.LeafTests.{leaves_of_both, row_of_both}
@@ -365,13 +365,13 @@ module _ (t temps : ℕ) (T : LeafTest t temps) where
         (acts_in acts tail None (rows ++ next ∷ []) (next + 1) good tt (more_acts (Read a e) acts rows next goods refl) (push_under rows next (next + 1) next (omega arith) all new) (omega (arith, le)) (omega (arith, deep, length_last rows next)) (λ q. omega (arith, wide q, length_last rows next)) fit)
     acts_in (Cons (KeepIf e) acts) tail held rows next good h goods all le deep wide fit =
         let good_e = held_good held e rows h (sure_good e acts (KeepIf e) rows goods refl refl (omega arith) refl) in
-        test_in (constant_truth (tested held e)) (lowered_test rows (tested held e) next t) next (λ n. acts_piece scope states t stop tail None acts rows n) loop.Nil
+        test_in (known_truth tail.has_loop (tested held e)) (lowered_test rows (tested held e) next t) next (λ n. acts_piece scope states t stop tail None acts rows n) loop.Nil
         (λ n q. acts_grow scope states t stop tail None acts rows n (good.grows q)) refl
         (λ fit_in. condition_in rows (tested held e) next all good_e fit_in)
         (λ n more most. acts_in acts tail None rows n good tt (rest_acts (KeepIf e) acts rows goods refl) (all_more rows next n more all) (omega (arith, le, more)) deep (λ q. omega (arith, wide q)) most) fit
     acts_in (Cons (StopUnless e) acts) tail held rows next good h goods all le deep wide fit =
         let good_e = held_good held e rows h (sure_good e acts (StopUnless e) rows goods refl refl (omega arith) refl) in
-        test_in (constant_truth (tested held e)) (lowered_test rows (tested held e) next t) next (λ n. acts_piece scope states t stop tail None acts rows n) stop
+        test_in (known_truth tail.has_loop (tested held e)) (lowered_test rows (tested held e) next t) next (λ n. acts_piece scope states t stop tail None acts rows n) stop
         (λ n q. acts_grow scope states t stop tail None acts rows n (good.grows q)) stop_in
         (λ fit_in. condition_in rows (tested held e) next all good_e fit_in)
         (λ n more most. acts_in acts tail None rows n good tt (rest_acts (StopUnless e) acts rows goods refl) (all_more rows next n more all) (omega (arith, le, more)) deep (λ q. omega (arith, wide q)) most) fit

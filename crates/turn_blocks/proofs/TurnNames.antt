@@ -136,31 +136,31 @@ module _ (laws : Laws) (t temps : ℕ) where
 
 -- ---- turns
 
-good_turn : (t temps : ℕ) (T : LeafTest t temps) (scope states least : ℕ) (stop : Block) (inside : IsTrue (block_leaves T.passes stop)) (rows : List ℕ) (acts : Actions) (item : List Term) → IsTurn scope states temps acts item → length rows ≡ scope + states → IsTrue (actions_leaves T.leaf acts) → IsTrue (row_leaves T.leaf item) → AreGoodActs t temps T scope states least stop inside (turn_acts acts item) rows
-good_turn t temps T scope states least stop inside rows acts item turn long leaves item_leaves = record {
-  sound = subst (λ n. IsTrue (are_sound_actions states n (turn_acts acts item))) (sym long) (joined_sound states (scope + states) acts item turn.acts_sound (both_true (all_bound (scope + states + actions_locals acts) item) (all_undivided item) turn.item_sound).0);
+good_turn : (t temps : ℕ) (T : LeafTest t temps) (scope states locals least : ℕ) (stop : Block) (inside : IsTrue (block_leaves T.passes stop)) (rows : List ℕ) (acts : Actions) (item : List Term) → IsTurn scope states locals temps acts item → length rows ≡ scope + states + locals → IsTrue (actions_leaves T.leaf acts) → IsTrue (row_leaves T.leaf item) → AreGoodActs t temps T scope states least stop inside (turn_acts acts item) rows
+good_turn t temps T scope states locals least stop inside rows acts item turn long leaves item_leaves = record {
+  sound = subst (λ n. IsTrue (are_sound_actions states n (turn_acts acts item))) (sym long) (joined_sound states (scope + states + locals) acts item turn.acts_sound (both_true (all_bound (scope + states + locals + actions_locals acts) item) (all_undivided item) turn.item_sound).0);
   numbers = joined_leaves is_word_number acts item turn.acts_words turn.item_words;
   few = joined_temps temps acts item turn.acts_few turn.item_few;
   leaves = joined_leaves T.leaf acts item leaves item_leaves;
 }
 
 module _ (laws : Laws) where
-  pub turn_names : (kinds : List InputKind) (vars scope states first_temp temps next : ℕ) (rows : List ℕ) (tail : Tail) (stop : Block) (acts : Actions) (item : List Term) → IsTurn scope states temps acts item → length rows ≡ scope + states → All (λ v. v < next) rows → first_temp + temps ≤ next → IsTrue (actions_leaves (is_named_input (declared_inputs kinds)) acts) → IsTrue (all_name_inputs (declared_inputs kinds) item) → IsTrue (block_names (declared_names kinds vars) stop) → ((row : List ℕ) (n : ℕ) → All (λ v. v < n) row → next ≤ n → length row ≡ tail.width → (tail.piece row n).next ≤ vars → IsTrue (block_names (declared_names kinds vars) (tail.piece row n).block)) → tail.width ≡ length item → ((row : List ℕ) (n : ℕ) → n ≤ (tail.piece row n).next) → (acts_piece scope states first_temp stop tail None (turn_acts acts item) rows next).next ≤ vars → IsTrue (block_names (declared_names kinds vars) (acts_piece scope states first_temp stop tail None (turn_acts acts item) rows next).block)
+  pub turn_names : (kinds : List InputKind) (vars scope states locals first_temp temps next : ℕ) (rows : List ℕ) (tail : Tail) (stop : Block) (acts : Actions) (item : List Term) → IsTurn scope states locals temps acts item → length rows ≡ scope + states + locals → All (λ v. v < next) rows → first_temp + temps ≤ next → IsTrue (actions_leaves (is_named_input (declared_inputs kinds)) acts) → IsTrue (all_name_inputs (declared_inputs kinds) item) → IsTrue (block_names (declared_names kinds vars) stop) → ((row : List ℕ) (n : ℕ) → All (λ v. v < n) row → next ≤ n → length row ≡ tail.width → (tail.piece row n).next ≤ vars → IsTrue (block_names (declared_names kinds vars) (tail.piece row n).block)) → tail.width ≡ length item → ((row : List ℕ) (n : ℕ) → n ≤ (tail.piece row n).next) → (acts_piece scope states first_temp stop tail None (turn_acts acts item) rows next).next ≤ vars → IsTrue (block_names (declared_names kinds vars) (acts_piece scope states first_temp stop tail None (turn_acts acts item) rows next).block)
   unfolding names_test
-  turn_names kinds vars scope states t temps next rows tail stop acts item turn long all temps_below leaves item_leaves stop_in tail_in wide grows fit =
+  turn_names kinds vars scope states locals t temps next rows tail stop acts item turn long all temps_below leaves item_leaves stop_in tail_in wide grows fit =
       let grown = acts_grow scope states t stop tail None (turn_acts acts item) rows next grows in
       let room : t + temps ≤ vars = omega (arith, grown, fit, temps_below) in
       acts_in t temps (names_test laws kinds vars t temps room) scope states next stop stop_in (turn_acts acts item) tail None rows next
       (record { grows = λ q. grows; inside = λ row n under le same most. tail_in row n (all_of (λ v. v < n) row under) le (same tt) most }) tt
-      (good_turn t temps (names_test laws kinds vars t temps room) scope states next stop stop_in rows acts item turn long leaves item_leaves)
+      (good_turn t temps (names_test laws kinds vars t temps room) scope states locals next stop stop_in rows acts item turn long leaves item_leaves)
       (λ k lt. all k 0 lt) (omega arith) (omega (arith, long)) (λ q. omega (arith, wide, long, joined_locals acts item)) fit
 
-  pub turn_constants : (scope states first_temp temps next : ℕ) (rows : List ℕ) (tail : Tail) (stop : Block) (acts : Actions) (item : List Term) → IsTurn scope states temps acts item → length rows ≡ scope + states → IsTrue (block_has_words stop) → ((row : List ℕ) (n : ℕ) → IsTrue (block_has_words (tail.piece row n).block)) → IsTrue (block_has_words (acts_piece scope states first_temp stop tail None (turn_acts acts item) rows next).block)
+  pub turn_constants : (scope states locals first_temp temps next : ℕ) (rows : List ℕ) (tail : Tail) (stop : Block) (acts : Actions) (item : List Term) → IsTurn scope states locals temps acts item → length rows ≡ scope + states + locals → IsTrue (block_has_words stop) → ((row : List ℕ) (n : ℕ) → IsTrue (block_has_words (tail.piece row n).block)) → IsTrue (block_has_words (acts_piece scope states first_temp stop tail None (turn_acts acts item) rows next).block)
   unfolding constants_test
-  turn_constants scope states t temps next rows tail stop acts item turn long stop_in tail_in =
+  turn_constants scope states locals t temps next rows tail stop acts item turn long stop_in tail_in =
       acts_in t temps (constants_test laws t temps) scope states 0 stop stop_in (turn_acts acts item) tail None rows next
       (record { grows = λ q. absurd q; inside = λ row n under le same most. tail_in row n }) tt
-      (good_turn t temps (constants_test laws t temps) scope states 0 stop stop_in rows acts item turn long turn.acts_words turn.item_words)
+      (good_turn t temps (constants_test laws t temps) scope states locals 0 stop stop_in rows acts item turn long turn.acts_words turn.item_words)
       (λ k lt. tt) (omega arith) (omega (arith, long)) (λ q. absurd q) tt
 
   pub fold_named : (kinds : List InputKind) (all width temps first_temp n : ℕ) (vars row : List ℕ) (next : List Term) → IsFold vars width temps next → IsTrue (all_name_inputs (declared_inputs kinds) next) → All (λ v. v < n) vars → All (λ v. v < n) row → length row ≡ width → first_temp + temps ≤ n → ((fold_tail vars first_temp width next).piece row n).next ≤ all → IsTrue (block_names (declared_names kinds all) ((fold_tail vars first_temp width next).piece row n).block)
@@ -183,7 +183,7 @@ joined_words scope NoActs [] = omega arith
 joined_words scope NoActs (e ∷ es) = let h = joined_words scope NoActs es in omega (arith, h)
 joined_words scope (ActsOf a acts) es = let h = joined_words scope acts es in omega (arith, h)
 
-pub turn_few : (scope states first_temp temps next most : ℕ) (rows : List ℕ) (tail : Tail) (stop : Block) (acts : Actions) (item : List Term) → IsTurn scope states temps acts item → length rows ≡ scope + states → ((row : List ℕ) (n : ℕ) → (tail.piece row n).next ≤ n + most) → (acts_piece scope states first_temp stop tail None (turn_acts acts item) rows next).next ≤ next + actions_words scope acts + length item + most
-turn_few scope states t temps next most rows tail stop acts item turn long short =
+pub turn_few : (scope states locals first_temp temps next most : ℕ) (rows : List ℕ) (tail : Tail) (stop : Block) (acts : Actions) (item : List Term) → IsTurn scope states locals temps acts item → length rows ≡ scope + states + locals → ((row : List ℕ) (n : ℕ) → (tail.piece row n).next ≤ n + most) → (acts_piece scope states first_temp stop tail None (turn_acts acts item) rows next).next ≤ next + actions_words scope acts + length item + most
+turn_few scope states locals t temps next most rows tail stop acts item turn long short =
     let h = acts_few scope states t stop tail None (turn_acts acts item) rows next most short in
     omega (arith, h, joined_words scope acts item)

@@ -11,7 +11,7 @@ use Rattle.strm_num.specs.Words.{IsWord}
 use Rattle.list_denotation.specs.declared.event.Event.{Event}
 use Rattle.list_denotation.specs.declared.input.Input.{Input}
 use Rattle.list_denotation.specs.Literals.{is_word_leaf}
-use Rattle.list_denotation.specs.Observation.{Done, Failed}
+use Rattle.list_denotation.specs.Observation.{Failed}
 use Rattle.list_denotation.specs.Terms.{Term, Var}
 use Rattle.list_denotation.specs.Values.{Is}
 use Rattle.loop_ir.specs.Statements.{Test, If, Block, Nil, Cons, join}
@@ -37,12 +37,14 @@ pub record Setting : Type 0 where
   pub inputs : List Input
   pub small : HasWordInputs inputs
   pub scope : ℕ
+  pub scope_vars : List ℕ
   pub t : ℕ
   pub temps : ℕ
   pub scope_words : List ℕ
   pub state_vars : List ℕ
   pub stop : Block
   pub scope_long : length scope_words ≡ scope
+  pub scope_wide : length scope_vars ≡ scope
   pub differ : (i j : ℕ) → i < length state_vars → j < length state_vars → slice_index state_vars i ≡ slice_index state_vars j → i ≡ j
 
 -- a leaf that is no word, or a live one
@@ -51,11 +53,11 @@ is_live live (Var k) = live k
 is_live live _ = true
 
 -- how the turn ends where its acts lead there: what follows them takes so many words
-abbrev pub act_end : Consumer → ℕ → List ℕ → ActResult → TurnEnd
-act_end c width held (Continue s l) = fed_end s (c.feed held (last width l))
-act_end c width held (Skip s) = Goes [] s held
-act_end c width held (Halt s) = Ends (c.ending held) Done
-act_end c width held (Break f) = Ends [] (Failed f)
+abbrev pub act_end : Consumer → ℕ → ActResult → TurnEnd
+act_end c width (Continue s l) = fed_end s (c.feed (last width l))
+act_end c width (Skip s) = Goes [] s c.held c.left
+act_end c width (Halt s) = fed_end s c.stopped
+act_end c width (Break f) = Ends [] (Failed f)
 
 module _ (S : Setting) where
   abbrev pub words_of : List ℕ → List ℕ → List ℕ
@@ -70,6 +72,7 @@ module _ (S : Setting) where
     pub given : (k : ℕ) → k < length rows → IsWordVariable S.t S.temps next (slice_index rows k)
     pub temps_below : S.t + S.temps ≤ next
     pub deep : base ≤ length rows
+    pub at_scope : (k : ℕ) → k < S.scope → slice_index rows k ≡ slice_index S.scope_vars k
     pub at_states : (j : ℕ) → j < length S.state_vars → slice_index rows (S.scope + j) ≡ slice_index S.state_vars j
     pub scope_apart : (k : ℕ) → k < S.scope → Differs S.state_vars (slice_index rows k)
     pub held_given : (i : ℕ) → i < length vars → IsWordVariable S.t S.temps next (slice_index vars i)
@@ -86,6 +89,7 @@ module _ (S : Setting) where
     given = λ k lt. more_given next next' (slice_index rows k) le (h.given k lt);
     temps_below = omega (arith, below, le);
     deep = h.deep;
+    at_scope = h.at_scope;
     at_states = h.at_states;
     scope_apart = h.scope_apart;
     held_given = λ i lt. more_given next next' (slice_index vars i) le (h.held_given i lt);
@@ -99,6 +103,7 @@ module _ (S : Setting) where
         given = λ k lt. each_last (IsWordVariable S.t S.temps next') rows v (λ i less. more_given next next' (slice_index rows i) le (h.given i less)) new k lt;
         temps_below = omega (arith, below, le);
         deep = omega (arith, deep, length_last rows v);
+        at_scope = λ k lt. before_last rows v k (omega (arith, lt, deep)) ∙ h.at_scope k lt;
         at_states = λ j lt. before_last rows v (S.scope + j) (omega (arith, lt, deep)) ∙ h.at_states j lt;
         scope_apart = λ k lt. subst (λ x. Differs S.state_vars x) (sym (before_last rows v k (omega (arith, lt, deep)))) (h.scope_apart k lt);
         held_given = λ i lt. more_given next next' (slice_index vars i) le (h.held_given i lt);
@@ -112,6 +117,7 @@ module _ (S : Setting) where
         given = λ k lt. more_given next (next + 1) (slice_index rows k) (omega arith) (h.given k lt);
         temps_below = omega (arith, below);
         deep = h.deep;
+        at_scope = h.at_scope;
         at_states = h.at_states;
         scope_apart = h.scope_apart;
         held_given = given;
@@ -339,36 +345,36 @@ module _ (S : Setting) where
   abbrev pub KeptBut : ℕ → List ℕ → List ℕ → List ℕ → Type 0
   KeptBut next vars env env' = (v : ℕ) → v < next → ¬ IsTemporary S.t S.temps v → Differs S.state_vars v → Differs vars v → slice_index env' v ≡ slice_index env v
 
-  pub record Arrives (next : ℕ) (vars : List ℕ) (block : Block) (env : List ℕ) (events : List Event) (state held : List ℕ) : Type 0 where
+  pub record Arrives (next : ℕ) (c : Consumer) (block : Block) (env : List ℕ) (events : List Event) (state held : List ℕ) (left : ℕ) : Type 0 where
     pub env' : List ℕ
-    pub runs : (left : ℕ) → run S.inputs block env left ≡ Runs events env' left
+    pub runs : run S.inputs block env c.left ≡ Runs events env' left
     pub same : length env' ≡ length env
     pub states : IsIn env' S.state_vars state
-    pub holds : IsIn env' vars held
-    pub kept : KeptBut next vars env env'
+    pub holds : IsIn env' c.vars held
+    pub kept : KeptBut next c.vars env env'
 
-  abbrev pub Reaches : ℕ → List ℕ → Block → List ℕ → TurnEnd → Type 0
-  Reaches next vars block env (Goes events state held) = Arrives next vars block env events state held
-  Reaches next vars block env (Ends events standing) = (left : ℕ) → run S.inputs block env left ≡ Over events standing
+  abbrev pub Reaches : ℕ → Consumer → Block → List ℕ → TurnEnd → Type 0
+  Reaches next c block env (Goes events state held left) = Arrives next c block env events state held left
+  Reaches next c block env (Ends events standing) = run S.inputs block env c.left ≡ Over events standing
 
-  pub reach_behind : (a b : Block) (env env' : List ℕ) (next next' : ℕ) (vars : List ℕ) (end : TurnEnd) → next ≤ next' → ((left : ℕ) → run S.inputs a env left ≡ Runs [] env' left) → length env' ≡ length env → KeptBut next vars env env' → Reaches next' vars b env' end → Reaches next vars (join a b) env end
-  reach_behind a b env env' next next' vars (Goes events state held) le runs same kept h = record {
+  pub reach_behind : (a b : Block) (env env' : List ℕ) (next next' : ℕ) (c : Consumer) (end : TurnEnd) → next ≤ next' → run S.inputs a env c.left ≡ Runs [] env' c.left → length env' ≡ length env → KeptBut next c.vars env env' → Reaches next' c b env' end → Reaches next c (join a b) env end
+  reach_behind a b env env' next next' c (Goes events state held left) le runs same kept h = record {
     env' = h.env';
-    runs = λ left. passes_on S.inputs a b env env' left (Runs events h.env' left) (runs left) (h.runs left);
+    runs = passes_on S.inputs a b env env' c.left (Runs events h.env' left) runs h.runs;
     same = h.same ∙ same;
     states = h.states;
     holds = h.holds;
     kept = λ v lt none apart other. h.kept v (omega (arith, lt, le)) none apart other ∙ kept v lt none apart other;
   }
-  reach_behind a b env env' next next' vars (Ends events standing) le runs same kept h = λ left. passes_on S.inputs a b env env' left (Over events standing) (runs left) (h left)
+  reach_behind a b env env' next next' c (Ends events standing) le runs same kept h = passes_on S.inputs a b env env' c.left (Over events standing) runs h
 
   -- from an earlier state, without statements
-  pub reach_from : (block : Block) (env : List ℕ) (next next' : ℕ) (vars : List ℕ) (end : TurnEnd) → next ≤ next' → Reaches next' vars block env end → Reaches next vars block env end
-  reach_from block env next next' vars (Goes events state held) le h = record { env' = h.env'; runs = h.runs; same = h.same; states = h.states; holds = h.holds; kept = λ v lt none apart other. h.kept v (omega (arith, lt, le)) none apart other }
-  reach_from block env next next' vars (Ends events standing) le h = h
+  pub reach_from : (block : Block) (env : List ℕ) (next next' : ℕ) (c : Consumer) (end : TurnEnd) → next ≤ next' → Reaches next' c block env end → Reaches next c block env end
+  reach_from block env next next' c (Goes events state held left) le h = record { env' = h.env'; runs = h.runs; same = h.same; states = h.states; holds = h.holds; kept = λ v lt none apart other. h.kept v (omega (arith, lt, le)) none apart other }
+  reach_from block env next next' c (Ends events standing) le h = h
 
-  pub if_reaches : (c : Test) (on off : Block) (env : List ℕ) (next : ℕ) (vars : List ℕ) (end : TurnEnd) (truth : Bool) → test_value S.inputs c env ≡ Is truth → Reaches next vars (if truth then on else off) env end → Reaches next vars (Cons (If c on off) Nil) env end
-  if_reaches c on off env next vars (Goes events state held) true is h = record { env' = h.env'; runs = λ left. if_runs S.inputs c on off env left true is ∙ h.runs left; same = h.same; states = h.states; holds = h.holds; kept = h.kept }
-  if_reaches c on off env next vars (Goes events state held) false is h = record { env' = h.env'; runs = λ left. if_runs S.inputs c on off env left false is ∙ h.runs left; same = h.same; states = h.states; holds = h.holds; kept = h.kept }
-  if_reaches c on off env next vars (Ends events standing) true is h = λ left. if_runs S.inputs c on off env left true is ∙ h left
-  if_reaches c on off env next vars (Ends events standing) false is h = λ left. if_runs S.inputs c on off env left false is ∙ h left
+  pub if_reaches : (t : Test) (on off : Block) (env : List ℕ) (next : ℕ) (c : Consumer) (end : TurnEnd) (truth : Bool) → test_value S.inputs t env ≡ Is truth → Reaches next c (if truth then on else off) env end → Reaches next c (Cons (If t on off) Nil) env end
+  if_reaches t on off env next c (Goes events state held left) true is h = record { env' = h.env'; runs = if_runs S.inputs t on off env c.left true is ∙ h.runs; same = h.same; states = h.states; holds = h.holds; kept = h.kept }
+  if_reaches t on off env next c (Goes events state held left) false is h = record { env' = h.env'; runs = if_runs S.inputs t on off env c.left false is ∙ h.runs; same = h.same; states = h.states; holds = h.holds; kept = h.kept }
+  if_reaches t on off env next c (Ends events standing) true is h = if_runs S.inputs t on off env c.left true is ∙ h
+  if_reaches t on off env next c (Ends events standing) false is h = if_runs S.inputs t on off env c.left false is ∙ h

@@ -28,8 +28,8 @@ use Rattle.stateful_core.specs.MostWords.{is_other_leaf}
 use Rattle.stateful_core.specs.WellFormed.{is_sound_action, are_sound_actions}
 use Rattle.turn_blocks.specs.Pieces.{Piece, Tail, behind, last}
 use Rattle.turn_blocks.specs.Temporaries.{acts_temps}
-use Rattle.turn_blocks.specs.TurnBlocks.{constant_truth, let_piece, acts_piece}
-use Rattle.turn_blocks.specs.TurnContract.{Consumer, Fed, Takes, Refuses, TurnEnd, Goes, Ends, fed_end, IsIn, FeedRuns, IsTailOf, IsStopOf}
+use Rattle.turn_blocks.specs.TurnBlocks.{constant_truth, known_truth, let_piece, acts_piece}
+use Rattle.turn_blocks.specs.TurnContract.{Consumer, Fed, Takes, Halts, TurnEnd, Goes, Ends, fed_end, IsIn, FeedRuns, IsTailOf, IsStopOf}
 use Rattle.turn_blocks.specs.WordUses.{are_unread, LetUse, Tested, Unused, Own, is_steady, stays, is_test_of, copy_use, let_use}
 use Rattle.turn_blocks.specs.WordUses.{Same as SameWord}
 use Rattle.turn_blocks.proofs.LeafTests.{acts_of_both}
@@ -37,7 +37,7 @@ use Rattle.turn_blocks.proofs.PieceSizes.{acts_grow}
 use Rattle.turn_blocks.proofs.StateTests.{either_true, other_word, false_not}
 use Rattle.turn_blocks.proofs.Values.{Untouched, IsFit, Puts, fresh, value_puts}
 use Rattle.turn_blocks.proofs.WordLists.{each_joined, all_of, Differs, none_of, is_in, still_in}
-use Rattle.turn_blocks.proofs.TurnStates.{Setting, is_live, act_end, words_of, base, Layout, more_layout, push_layout, fresh_given, laid_out, state_given, Course, push_course, Stands, states_in, still_stands, still_held, local_at_word, push_stands, Reaches, reach_behind}
+use Rattle.turn_blocks.proofs.TurnStates.{Setting, is_live, act_end, words_of, scope_at_word, base, Layout, more_layout, push_layout, fresh_given, laid_out, state_given, Course, push_course, Stands, states_in, still_stands, still_held, local_at_word, push_stands, Reaches, reach_behind}
 
 -- ---- constants
 
@@ -45,8 +45,14 @@ constant_is : (e : Term) (b : Bool) → constant_truth e ≡ Some b → e ≡ Tr
 constant_is (Truth c) b h = let q : c ≡ b = cc in ap Truth q
 constant_is _ b h = absurd cc
 
-pub constant_value : (e : Term) (words : List ℕ) (inputs : List Input) (b : Bool) → constant_truth e ≡ Some b → value e words inputs ≡ Is (truth_of b)
+constant_value : (e : Term) (words : List ℕ) (inputs : List Input) (b : Bool) → constant_truth e ≡ Some b → value e words inputs ≡ Is (truth_of b)
 constant_value e words inputs b h = ap (λ x. value x words inputs) (constant_is e b h)
+
+pub known_value : (loops : Bool) (e : Term) (words : List ℕ) (inputs : List Input) (b : Bool) → known_truth loops e ≡ Some b → value e words inputs ≡ Is (truth_of b)
+known_value false e words inputs b h = constant_value e words inputs b h
+known_value true (Truth true) words inputs b h = constant_value (Truth true) words inputs b h
+known_value true (Truth false) words inputs b h = absurd cc
+known_value true _ words inputs b h = absurd cc
 
 -- ---- items of an array
 
@@ -128,57 +134,57 @@ module _ (S : Setting) where
 
   -- who takes the row, and ends the run
   pub record Serves (c : Consumer) (tail : Tail) : Type 0 where
-    pub tails : IsTailOf S.inputs S.t S.temps c tail
-    pub stops : IsStopOf S.inputs c S.stop
+    pub tails : IsTailOf S.inputs S.t S.temps S.scope_vars S.scope_words c tail
+    pub stops : IsStopOf S.inputs S.t S.temps c S.stop
 
   -- the state of variables before acts
-  pub record Before (acts : Actions) (c : Consumer) (tail : Tail) (rows : List ℕ) (next : ℕ) (live : ℕ → Bool) (s l h env : List ℕ) : Type 0 where
+  pub record Before (acts : Actions) (c : Consumer) (tail : Tail) (rows : List ℕ) (next : ℕ) (live : ℕ → Bool) (s l env : List ℕ) : Type 0 where
     pub layout : Layout S rows next c.vars
     pub course : Course S acts rows live tail.width
     pub stands : Stands S rows live s l env
-    pub holds : IsIn env c.vars h
+    pub holds : IsIn env c.vars c.held
     pub small : length env < 2 ^ 32
 
   -- the statements of acts do what the acts do, and then with the row what the consumer does
   abbrev pub IsTurned : Actions → Type 0
   IsTurned acts =
-      (c : Consumer) (tail : Tail) (rows : List ℕ) (next : ℕ) (live : ℕ → Bool) (s l h env : List ℕ) → Serves c tail → Before acts c tail rows next live s l h env
-      → (piece tail None acts rows next).next ≤ length env → Reaches S next c.vars (piece tail None acts rows next).block env (act_end c tail.width h (run_from acts s l))
+      (c : Consumer) (tail : Tail) (rows : List ℕ) (next : ℕ) (live : ℕ → Bool) (s l env : List ℕ) → Serves c tail → Before acts c tail rows next live s l env
+      → (piece tail None acts rows next).next ≤ length env → Reaches S next c (piece tail None acts rows next).block env (act_end c tail.width (run_from acts s l))
 
   -- the same where the first act tests a word that is held
   abbrev pub IsTurnedHeld : Actions → Type 0
   IsTurnedHeld acts =
-      (e : Term) (c : Consumer) (tail : Tail) (rows : List ℕ) (next : ℕ) (live : ℕ → Bool) (s l h env : List ℕ) → Serves c tail → Before (Cons (Let e) acts) c tail rows next live s l h env
+      (e : Term) (c : Consumer) (tail : Tail) (rows : List ℕ) (next : ℕ) (live : ℕ → Bool) (s l env : List ℕ) → Serves c tail → Before (Cons (Let e) acts) c tail rows next live s l env
       → length rows ≢ 0 → tail.width ≤ actions_locals acts → IsTrue (is_test_of S.scope (length S.state_vars) (length rows) acts)
       → (piece tail (Some e) acts (rows ++ slice_index rows 0 ∷ []) next).next ≤ length env
-      → Reaches S next c.vars (piece tail (Some e) acts (rows ++ slice_index rows 0 ∷ []) next).block env (act_end c tail.width h (run_from (Cons (Let e) acts) s l))
+      → Reaches S next c (piece tail (Some e) acts (rows ++ slice_index rows 0 ∷ []) next).block env (act_end c tail.width (run_from (Cons (Let e) acts) s l))
 
   -- ---- facts that are used again and again
 
-  module _ (acts : Actions) (c : Consumer) (tail : Tail) (rows : List ℕ) (next : ℕ) (live : ℕ → Bool) (s l h env : List ℕ) (b : Before acts c tail rows next live s l h env) where
+  module _ (acts : Actions) (c : Consumer) (tail : Tail) (rows : List ℕ) (next : ℕ) (live : ℕ → Bool) (s l env : List ℕ) (b : Before acts c tail rows next live s l env) where
     pub before_in : IsIn env S.state_vars s
     before_in = states_in S rows next c.vars live s l env b.layout b.course.old_live b.stands
 
     -- no statements: the state and what is held are as they were
-    pub stay : Reaches S next c.vars loop.Nil env (Goes [] s h)
-    stay = record { env' = env; runs = λ left. refl; same = refl; states = before_in; holds = b.holds; kept = λ v lt none apart other. refl }
+    pub stay : Reaches S next c loop.Nil env (Goes [] s c.held c.left)
+    stay = record { env' = env; runs = refl; same = refl; states = before_in; holds = b.holds; kept = λ v lt none apart other. refl }
 
     pub lay : next ≤ length env → IsLaidOut rows S.t S.temps next
     lay le = let small = b.small in laid_out S rows next c.vars (omega (arith, le, small)) b.layout
 
     -- behind statements that change no variable that was given out
-    pub later : (next' : ℕ) (env' : List ℕ) → next ≤ next' → length env' ≡ length env → Untouched S.laws S.inputs S.small S.t S.temps next env env' → Before acts c tail rows next' live s l h env'
+    pub later : (next' : ℕ) (env' : List ℕ) → next ≤ next' → length env' ≡ length env → Untouched S.laws S.inputs S.small S.t S.temps next env env' → Before acts c tail rows next' live s l env'
     later next' env' le same kept = let small = b.small in record {
       layout = more_layout S rows next next' c.vars le b.layout;
       course = b.course;
       stands = still_stands S rows next c.vars live s l env env' b.layout kept b.stands;
-      holds = still_held S rows next c.vars h env env' b.layout kept b.holds;
+      holds = still_held S rows next c.vars c.held env env' b.layout kept b.holds;
       small = omega (arith, small, same);
     }
 
   -- with other acts
-  pub before_acts : (first acts : Actions) (c : Consumer) (tail : Tail) (rows : List ℕ) (next : ℕ) (live : ℕ → Bool) (s l h env : List ℕ) → Before first c tail rows next live s l h env → Course S acts rows live tail.width → Before acts c tail rows next live s l h env
-  before_acts first acts c tail rows next live s l h env b course = record { layout = b.layout; course = course; stands = b.stands; holds = b.holds; small = b.small }
+  pub before_acts : (first acts : Actions) (c : Consumer) (tail : Tail) (rows : List ℕ) (next : ℕ) (live : ℕ → Bool) (s l env : List ℕ) → Before first c tail rows next live s l env → Course S acts rows live tail.width → Before acts c tail rows next live s l env
+  before_acts first acts c tail rows next live s l env b course = record { layout = b.layout; course = course; stands = b.stands; holds = b.holds; small = b.small }
 
   -- an expression of sound acts
   pub fit : (rows : List ℕ) (live : ℕ → Bool) (e : Term) → IsTrue (is_bound (length rows) e) → IsTrue (has_words e) → temps_of e ≤ S.temps → IsTrue (all_leaves (is_live live) e) → IsFit S.laws S.inputs S.small S.t S.temps rows (is_live live) e
@@ -186,9 +192,12 @@ module _ (S : Setting) where
 
   -- ---- the row
 
+  pub states_apart : (rows : List ℕ) (next : ℕ) (vars : List ℕ) → Layout S rows next vars → (j : ℕ) → j < length S.state_vars → Differs vars (slice_index S.state_vars j)
+  states_apart rows next vars layout j lt = subst (Differs vars) (layout.at_states j lt) (layout.held_apart (S.scope + j) (omega (arith, lt, layout.deep)))
+
   module _ (next : ℕ) (c : Consumer) (block : Block) (env s : List ℕ) (state_in : IsIn env S.state_vars s) (given : (j : ℕ) → j < length S.state_vars → IsWordVariable S.t S.temps next (slice_index S.state_vars j)) (apart : (j : ℕ) → j < length S.state_vars → Differs c.vars (slice_index S.state_vars j)) where
-    fed_reaches : (fed : Fed) → FeedRuns S.inputs (record { first_temp = S.t; temps = S.temps; next = next }) c block env fed → Reaches S next c.vars block env (fed_end s fed)
-    fed_reaches (Takes events held) h = record {
+    pub fed_reaches : (fed : Fed) → FeedRuns S.inputs (record { first_temp = S.t; temps = S.temps; next = next }) c block env fed → Reaches S next c block env (fed_end s fed)
+    fed_reaches (Takes events held left) h = record {
       env' = h.env';
       runs = h.runs;
       same = h.same;
@@ -196,15 +205,15 @@ module _ (S : Setting) where
       holds = h.holds;
       kept = λ v lt none differs other. h.kept v lt none (none_of c.vars v other);
     }
-    fed_reaches (Refuses f) h = h
+    fed_reaches (Halts events standing) h = h
 
   pub nil_turned : IsTurned Nil
-  nil_turned c tail rows next live s l h env serves b room =
-      fed_reaches next c (tail.piece (last tail.width rows) next).block env s (before_in Nil c tail rows next live s l h env b)
+  nil_turned c tail rows next live s l env serves b room =
+      fed_reaches next c (tail.piece (last tail.width rows) next).block env s (before_in Nil c tail rows next live s l env b)
       (state_given S rows next c.vars layout)
-      (λ j lt. subst (Differs c.vars) (layout.at_states j lt) (layout.held_apart (S.scope + j) (omega (arith, lt, deep))))
-      (c.feed h (last tail.width l))
-      (serves.tails.runs next (last tail.width rows) (last tail.width l) h env lay_all none_held row_long room b.small row_in b.holds)
+      (states_apart rows next c.vars layout)
+      (c.feed (last tail.width l))
+      (serves.tails.runs next (last tail.width rows) (last tail.width l) env lay_all none_held row_long room b.small scope_in row_in b.holds)
     where
       layout : Layout S rows next c.vars
       layout = b.layout
@@ -233,16 +242,32 @@ module _ (S : Setting) where
       given : (i : ℕ) → i < length (last tail.width rows) → IsWordVariable S.t S.temps next (slice_index (last tail.width rows) i)
       given i lt = subst (IsWordVariable S.t S.temps next) (sym (row_at i)) (layout.given (length rows - tail.width + i) (in_rows i lt))
 
-      lay_all : IsLaidOut (c.vars ++ last tail.width rows) S.t S.temps next
+      scope_at : (k : ℕ) → k < length S.scope_vars → slice_index rows k ≡ slice_index S.scope_vars k
+      scope_at k lt = layout.at_scope k (omega (arith, lt, S.scope_wide))
+
+      scope_given : (k : ℕ) → k < length S.scope_vars → IsWordVariable S.t S.temps next (slice_index S.scope_vars k)
+      scope_given k lt = subst (IsWordVariable S.t S.temps next) (scope_at k lt) (layout.given k (omega (arith, lt, S.scope_wide, deep)))
+
+      scope_place : (k : ℕ) → k < length S.scope_vars → IsInVariable rows (words_of S s l) S.inputs env k
+      scope_place k lt = b.stands.in_place k (omega (arith, lt, S.scope_wide, deep)) (b.course.old_live k (omega (arith, lt, S.scope_wide)))
+
+      scope_in : IsIn env S.scope_vars S.scope_words
+      scope_in = is_in env S.scope_vars S.scope_words (S.scope_wide ∙ sym S.scope_long)
+          (λ k lt. ap (slice_index env) (sym (scope_at k lt)) ∙ ((scope_place k lt).same ∙ scope_at_word S s l k (omega (arith, lt, S.scope_wide))))
+          (λ k lt. subst IsWord (scope_at_word S s l k (omega (arith, lt, S.scope_long))) (scope_place k (omega (arith, lt, S.scope_long, S.scope_wide))).word)
+
+      lay_all : IsLaidOut (c.vars ++ (S.scope_vars ++ last tail.width rows)) S.t S.temps next
       lay_all = let small = b.small in let grown = serves.tails.grows next (last tail.width rows) in record {
         few = omega (arith, small, room, grown);
         temporaries = layout.temps_below;
-        words = all_of (IsWordVariable S.t S.temps next) (c.vars ++ last tail.width rows) (each_joined (IsWordVariable S.t S.temps next) c.vars (last tail.width rows) layout.held_given given);
+        words = all_of (IsWordVariable S.t S.temps next) (c.vars ++ (S.scope_vars ++ last tail.width rows)) (each_joined (IsWordVariable S.t S.temps next) c.vars (S.scope_vars ++ last tail.width rows) layout.held_given (each_joined (IsWordVariable S.t S.temps next) S.scope_vars (last tail.width rows) scope_given given));
       }
 
-      none_held : All (λ v. ¬ Contains c.vars v) (last tail.width rows)
-      none_held = all_of (λ v. ¬ Contains c.vars v) (last tail.width rows)
-          (λ i lt. none_of c.vars (slice_index (last tail.width rows) i) (subst (Differs c.vars) (sym (row_at i)) (layout.held_apart (length rows - tail.width + i) (in_rows i lt))))
+      none_held : All (λ v. ¬ Contains c.vars v) (S.scope_vars ++ last tail.width rows)
+      none_held = all_of (λ v. ¬ Contains c.vars v) (S.scope_vars ++ last tail.width rows)
+          (each_joined (λ v. ¬ Contains c.vars v) S.scope_vars (last tail.width rows)
+          (λ k lt. none_of c.vars (slice_index S.scope_vars k) (subst (Differs c.vars) (scope_at k lt) (layout.held_apart k (omega (arith, lt, S.scope_wide, deep)))))
+          (λ i lt. none_of c.vars (slice_index (last tail.width rows) i) (subst (Differs c.vars) (sym (row_at i)) (layout.held_apart (length rows - tail.width + i) (in_rows i lt)))))
 
       place : (i : ℕ) → i < length (last tail.width rows) → IsInVariable rows (words_of S s l) S.inputs env (length rows - tail.width + i)
       place i lt = b.stands.in_place (length rows - tail.width + i) (in_rows i lt) (b.course.taken_live (length rows - tail.width + i) (omega (arith, wide)))
@@ -260,15 +285,15 @@ module _ (S : Setting) where
   -- ---- words that get a variable
 
   -- statements that put a new word into a fresh variable, and then others
-  pub own_reaches : (block : Block) (rest : Piece) (next : ℕ) (vars env s l : List ℕ) (g : Got ℕ) (c : Consumer) (width : ℕ) (h : List ℕ) (go : List ℕ → List ℕ → ActResult) → Puts S.laws S.inputs S.small S.t S.temps block next next env g → ((x : ℕ) (env' : List ℕ) → g ≡ Is x → IsWord x → slice_index env' next ≡ x → length env' ≡ length env → Untouched S.laws S.inputs S.small S.t S.temps next env env' → Reaches S (next + 1) vars rest.block env' (act_end c width h (go s (l ++ x ∷ [])))) → Reaches S next vars (join block rest.block) env (act_end c width h (then_run (let_word g s l) go))
-  own_reaches block rest next vars env s l (Is x) c width h go puts on =
+  pub own_reaches : (block : Block) (rest : Piece) (next : ℕ) (env s l : List ℕ) (g : Got ℕ) (c : Consumer) (width : ℕ) (go : List ℕ → List ℕ → ActResult) → Puts S.laws S.inputs S.small S.t S.temps block next next env g → ((x : ℕ) (env' : List ℕ) → g ≡ Is x → IsWord x → slice_index env' next ≡ x → length env' ≡ length env → Untouched S.laws S.inputs S.small S.t S.temps next env env' → Reaches S (next + 1) c rest.block env' (act_end c width (go s (l ++ x ∷ [])))) → Reaches S next c (join block rest.block) env (act_end c width (then_run (let_word g s l) go))
+  own_reaches block rest next env s l (Is x) c width go puts on =
       let kept : Untouched S.laws S.inputs S.small S.t S.temps next env puts.env' = λ v lt none. puts.kept v lt none (λ e. omega (arith, lt, e)) in
-      reach_behind S block rest.block env puts.env' next (next + 1) vars (act_end c width h (go s (l ++ x ∷ []))) (omega arith) puts.runs puts.same
+      reach_behind S block rest.block env puts.env' next (next + 1) c (act_end c width (go s (l ++ x ∷ []))) (omega arith) (puts.runs c.left) puts.same
       (λ v lt none apart other. kept v lt none) (on x puts.env' refl puts.word puts.is puts.same kept)
-  own_reaches block rest next vars env s l (Fails f) c width h go puts on = λ left. is_over S.inputs block rest.block [] (Failed f) env left (puts left)
+  own_reaches block rest next env s l (Fails f) c width go puts on = is_over S.inputs block rest.block [] (Failed f) env c.left (puts c.left)
 
   -- the variables before the acts behind a new word, in the variable v
-  module _ (a : Action) (acts : Actions) (c : Consumer) (tail : Tail) (rows : List ℕ) (next : ℕ) (live : ℕ → Bool) (s l h env : List ℕ) (b : Before (Cons a acts) c tail rows next live s l h env) (one : action_locals a ≡ 1) (behind_stays : (j : ℕ) → IsTrue (stays S.scope states j (Cons a acts)) → IsTrue (stays S.scope states j acts)) where
+  module _ (a : Action) (acts : Actions) (c : Consumer) (tail : Tail) (rows : List ℕ) (next : ℕ) (live : ℕ → Bool) (s l env : List ℕ) (b : Before (Cons a acts) c tail rows next live s l env) (one : action_locals a ≡ 1) (behind_stays : (j : ℕ) → IsTrue (stays S.scope states j (Cons a acts)) → IsTrue (stays S.scope states j acts)) where
     rest_sound : IsTrue (are_sound_actions states (length rows + 1) acts)
     rest_sound = subst (λ n. IsTrue (are_sound_actions states (length rows + n) acts)) one (both_true (is_sound_action states (length rows) a) (are_sound_actions states (length rows + action_locals a) acts) b.course.sound).1
 
@@ -282,19 +307,19 @@ module _ (S : Setting) where
     rest_reads = (both_true (action_leaves (is_live live) a) (actions_leaves (is_live live) acts) b.course.reads).1
 
     -- a word that has a variable
-    pub pushed : (next' v x : ℕ) (env' : List ℕ) → next ≤ next' → IsWordVariable S.t S.temps next' v → Differs c.vars v → ((j : ℕ) → j < length S.state_vars → v ≡ slice_index S.state_vars j → IsTrue (stays S.scope states j acts)) → length env' ≡ length env → Untouched S.laws S.inputs S.small S.t S.temps next env env' → slice_index env' v ≡ x → IsWord x → Before acts c tail (rows ++ v ∷ []) next' live s (l ++ x ∷ []) h env'
+    pub pushed : (next' v x : ℕ) (env' : List ℕ) → next ≤ next' → IsWordVariable S.t S.temps next' v → Differs c.vars v → ((j : ℕ) → j < length S.state_vars → v ≡ slice_index S.state_vars j → IsTrue (stays S.scope states j acts)) → length env' ≡ length env → Untouched S.laws S.inputs S.small S.t S.temps next env env' → slice_index env' v ≡ x → IsWord x → Before acts c tail (rows ++ v ∷ []) next' live s (l ++ x ∷ []) env'
     pushed next' v x env' le given apart alias same kept is word =
         let small = b.small in record {
           layout = push_layout S rows next next' c.vars v le b.layout given apart;
           course = push_course S (Cons a acts) acts rows live live tail.width v b.course b.layout.deep rest_sound rest_numbers rest_few rest_reads (omega (arith, one)) behind_stays
               (λ k is. is) (λ k other is. is) (λ lt. b.course.new_live (length rows) (omega arith)) (λ is j lt e. alias j lt e);
           stands = push_stands S rows live live s l env' v x (still_stands S rows next c.vars live s l env env' b.layout kept b.stands) (λ k is. is) (λ live_too. (is, word));
-          holds = still_held S rows next c.vars h env env' b.layout kept b.holds;
+          holds = still_held S rows next c.vars c.held env env' b.layout kept b.holds;
           small = omega (arith, small, same);
         }
 
     -- a word that is dead shares the variable of the first one
-    pub pushed_dead : (x : ℕ) → length rows ≢ 0 → tail.width ≤ actions_locals acts → IsTrue (are_unread (length rows) 1 acts) → Before acts c tail (rows ++ slice_index rows 0 ∷ []) next (live_but live (length rows)) s (l ++ x ∷ []) h env
+    pub pushed_dead : (x : ℕ) → length rows ≢ 0 → tail.width ≤ actions_locals acts → IsTrue (are_unread (length rows) 1 acts) → Before acts c tail (rows ++ slice_index rows 0 ∷ []) next (live_but live (length rows)) s (l ++ x ∷ []) env
     pushed_dead x some wide unread = record {
       layout = push_layout S rows next next c.vars (slice_index rows 0) (omega arith) b.layout (b.layout.given 0 (omega (arith, some))) (b.layout.held_apart 0 (omega (arith, some)));
       course = push_course S (Cons a acts) acts rows live (live_but live (length rows)) tail.width (slice_index rows 0) b.course b.layout.deep rest_sound rest_numbers rest_few
@@ -307,7 +332,7 @@ module _ (S : Setting) where
     }
 
     -- a fresh variable
-    pub pushed_fresh : (x : ℕ) (env' : List ℕ) → length env' ≡ length env → Untouched S.laws S.inputs S.small S.t S.temps next env env' → slice_index env' next ≡ x → IsWord x → Before acts c tail (rows ++ next ∷ []) (next + 1) live s (l ++ x ∷ []) h env'
+    pub pushed_fresh : (x : ℕ) (env' : List ℕ) → length env' ≡ length env → Untouched S.laws S.inputs S.small S.t S.temps next env env' → slice_index env' next ≡ x → IsWord x → Before acts c tail (rows ++ next ∷ []) (next + 1) live s (l ++ x ∷ []) env'
     pushed_fresh x env' same kept is word =
         pushed (next + 1) next x env' (omega arith) (fresh_given S (next + 1) next b.layout.temps_below (omega arith))
         (λ j lt. let v = (b.layout.held_given j lt).below in λ e. omega (arith, v, e))
@@ -318,7 +343,7 @@ module _ (S : Setting) where
 
   module _ (e : Term) (acts : Actions) (ih : IsTurned acts) (ih_held : IsTurnedHeld acts) where
     pub let_turned : IsTurned (Cons (Let e) acts)
-    let_turned c tail rows next live s l h env serves b room =
+    let_turned c tail rows next live s l env serves b room =
         by_use (let_use S.scope states tail.width (length rows) e acts) (use_facts S.scope states tail.width (length rows) e acts (let_use S.scope states tail.width (length rows) e acts) refl) room
       where
         bound : IsTrue (is_bound (length rows) e)
@@ -333,17 +358,17 @@ module _ (S : Setting) where
         fits : IsFit S.laws S.inputs S.small S.t S.temps rows (is_live live) e
         fits = let few = b.course.few in fit rows live e bound numbers (omega (arith, few)) leaves
 
-        by_use : (u : LetUse) → UseFacts S.scope states tail.width (length rows) e acts u → (let_piece u e S.t rows next (λ held r n. piece tail held acts r n)).next ≤ length env → Reaches S next c.vars (let_piece u e S.t rows next (λ held r n. piece tail held acts r n)).block env (act_end c tail.width h (then_run (let_word (value e (words_of S s l) S.inputs) s l) (λ t m. run_from acts t m)))
-        by_use Tested facts most = ih_held e c tail rows next live s l h env serves b facts.0 facts.1.0 facts.1.1 most
+        by_use : (u : LetUse) → UseFacts S.scope states tail.width (length rows) e acts u → (let_piece u e S.t rows next (λ held r n. piece tail held acts r n)).next ≤ length env → Reaches S next c (let_piece u e S.t rows next (λ held r n. piece tail held acts r n)).block env (act_end c tail.width (then_run (let_word (value e (words_of S s l) S.inputs) s l) (λ t m. run_from acts t m)))
+        by_use Tested facts most = ih_held e c tail rows next live s l env serves b facts.0 facts.1.0 facts.1.1 most
         by_use Unused facts most =
             let x = S.laws.undivided_value (words_of S s l) S.inputs e facts.1.1.0 in
-            subst (λ g. Reaches S next c.vars (piece tail None acts (rows ++ slice_index rows 0 ∷ []) next).block env (act_end c tail.width h (then_run (let_word g s l) (λ t m. run_from acts t m)))) (sym x.1)
-            (ih c tail (rows ++ slice_index rows 0 ∷ []) next (live_but live (length rows)) s (l ++ x.0 ∷ []) h env serves
-            (pushed_dead (Let e) acts c tail rows next live s l h env b refl (λ j is. is) x.0 facts.0 facts.1.0 facts.1.1.1) most)
+            subst (λ g. Reaches S next c (piece tail None acts (rows ++ slice_index rows 0 ∷ []) next).block env (act_end c tail.width (then_run (let_word g s l) (λ t m. run_from acts t m)))) (sym x.1)
+            (ih c tail (rows ++ slice_index rows 0 ∷ []) next (live_but live (length rows)) s (l ++ x.0 ∷ []) env serves
+            (pushed_dead (Let e) acts c tail rows next live s l env b refl (λ j is. is) x.0 facts.0 facts.1.0 facts.1.1.1) most)
         by_use (SameWord k) facts most =
-            subst (λ f. Reaches S next c.vars (piece tail None acts (rows ++ slice_index rows k ∷ []) next).block env (act_end c tail.width h (then_run (let_word (value f (words_of S s l) S.inputs) s l) (λ t m. run_from acts t m)))) (sym facts.0)
-            (ih c tail (rows ++ slice_index rows k ∷ []) next live s (l ++ slice_index (words_of S s l) k ∷ []) h env serves
-            (pushed (Let e) acts c tail rows next live s l h env b refl (λ j is. is) next (slice_index rows k) (slice_index (words_of S s l) k) env (omega arith) (b.layout.given k within) (b.layout.held_apart k within)
+            subst (λ f. Reaches S next c (piece tail None acts (rows ++ slice_index rows k ∷ []) next).block env (act_end c tail.width (then_run (let_word (value f (words_of S s l) S.inputs) s l) (λ t m. run_from acts t m)))) (sym facts.0)
+            (ih c tail (rows ++ slice_index rows k ∷ []) next live s (l ++ slice_index (words_of S s l) k ∷ []) env serves
+            (pushed (Let e) acts c tail rows next live s l env b refl (λ j is. is) next (slice_index rows k) (slice_index (words_of S s l) k) env (omega arith) (b.layout.given k within) (b.layout.held_apart k within)
             (alias (cases_lt k S.scope) (cases_lt k (base S))) refl (λ v lt none. refl) there.same there.word) most)
           where
             within : k < length rows
@@ -372,11 +397,11 @@ module _ (S : Setting) where
                 subst (λ n. IsTrue (stays S.scope states n acts)) (S.differ (k - S.scope) j (omega (arith, high, low)) lt at) (steady_state high low)
             alias (inr high) (inr local) j lt same = b.course.alias k local within is_alive j lt same
         by_use Own facts most =
-            own_reaches (lowered_into rows e next S.t) (piece tail None acts (rows ++ next ∷ []) (next + 1)) next c.vars env s l (value e (words_of S s l) S.inputs) c tail.width h (λ t m. run_from acts t m)
-            (value_puts S.laws S.inputs S.small S.t S.temps rows (words_of S s l) (is_live live) e fits next next env (lay (Cons (Let e) acts) c tail rows next live s l h env b least) b.stands.in_place
-            (fresh S.laws S.inputs S.small S.t S.temps rows (words_of S s l) (is_live live) e fits next (lay (Cons (Let e) acts) c tail rows next live s l h env b least)) (omega (arith, most, grown)) least)
-            (λ x env' got word is same kept. ih c tail (rows ++ next ∷ []) (next + 1) live s (l ++ x ∷ []) h env' serves
-            (pushed_fresh (Let e) acts c tail rows next live s l h env b refl (λ j ok. ok) x env' same kept is word) (omega (arith, most, same)))
+            own_reaches (lowered_into rows e next S.t) (piece tail None acts (rows ++ next ∷ []) (next + 1)) next env s l (value e (words_of S s l) S.inputs) c tail.width (λ t m. run_from acts t m)
+            (value_puts S.laws S.inputs S.small S.t S.temps rows (words_of S s l) (is_live live) e fits next next env (lay (Cons (Let e) acts) c tail rows next live s l env b least) b.stands.in_place
+            (fresh S.laws S.inputs S.small S.t S.temps rows (words_of S s l) (is_live live) e fits next (lay (Cons (Let e) acts) c tail rows next live s l env b least)) (omega (arith, most, grown)) least)
+            (λ x env' got word is same kept. ih c tail (rows ++ next ∷ []) (next + 1) live s (l ++ x ∷ []) env' serves
+            (pushed_fresh (Let e) acts c tail rows next live s l env b refl (λ j ok. ok) x env' same kept is word) (omega (arith, most, same)))
           where
             grown : next + 1 ≤ (piece tail None acts (rows ++ next ∷ []) (next + 1)).next
             grown = acts_grow S.scope states S.t S.stop tail None acts (rows ++ next ∷ []) (next + 1) (λ row n. serves.tails.grows n row)

@@ -5,6 +5,7 @@ use Rattle.std.specs.Prelude.{IsTrue, nat_le, slice_index, None}
 use Rattle.std.proofs.lemmas.Bool.{cases_lt, leb-true}
 use Rattle.strm_num.proofs.Truths.{both_true}
 use Rattle.strm_num.specs.Words.{IsWord}
+use Rattle.list_denotation.specs.declared.event.Event.{Event}
 use Rattle.list_denotation.specs.declared.input.Input.{Input}
 use Rattle.list_denotation.specs.Literals.{is_word_leaf}
 use Rattle.list_denotation.specs.Scopes.{all_bound}
@@ -12,8 +13,8 @@ use Rattle.list_denotation.specs.Terms.{Term, Var}
 use Rattle.list_denotation.specs.Typing.{is_undivided, all_undivided}
 use Rattle.list_denotation.specs.Values.{Is, with_value, row_value}
 use Rattle.loop_ir.specs.Statements.{Block, join}
-use Rattle.loop_ir.specs.Meaning.{Runs, after}
-use Rattle.loop_ir.proofs.Joins.{goes_on, is_over}
+use Rattle.loop_ir.specs.Meaning.{Runs, after, then_do, run}
+use Rattle.loop_ir.proofs.Joins.{run_join, is_over}
 use Rattle.expr_lower.specs.Scopes.{IsInVariable}
 use Rattle.stateful_core.specs.Actions.{ActResult, Continue, Skip, Halt, Break, overwrite}
 use Rattle.stateful_core.specs.CoreLeaves.{row_leaves, actions_leaves}
@@ -24,7 +25,7 @@ use Rattle.turn_blocks.specs.Laws.{Laws}
 use Rattle.turn_blocks.specs.Pieces.{Piece, Tail, last}
 use Rattle.turn_blocks.specs.StateBlocks.{words_piece}
 use Rattle.turn_blocks.specs.TurnBlocks.{update_piece}
-use Rattle.turn_blocks.specs.TurnContract.{Consumer, Fed, Takes, Refuses, TurnEnd, Goes, Ends, fed_end, IsIn}
+use Rattle.turn_blocks.specs.TurnContract.{Consumer, Fed, Takes, Halts, TurnEnd, Goes, Ends, fed_end, IsIn}
 use Rattle.turn_blocks.specs.WordUses.{are_unread, actions_keep, is_lasting_leaf, may_wait}
 use Rattle.turn_blocks.proofs.ActRuns.{with_state, AtState, length_values, acts_commute, acts_keep, IsSameState}
 use Rattle.turn_blocks.proofs.Overwrites.{length_overwrite, overwrite_before, overwrite_behind, overwrite_at}
@@ -47,36 +48,41 @@ undivided_row laws inputs env (e ∷ es) h =
     ∙ ap (λ g. with_value g (λ row. Is (x.0 ∷ row))) (undivided_row laws inputs env es p.1)
     ∙ ap (λ y. Is (y ∷ word_values es env inputs)) (sym (ap or_zero x.1))
 
+-- statements that lead on, and then others without events
+pub goes_on_to : (S : Setting) (a b : Block) (events : List Event) (env env' env'' : List ℕ) (left left' : ℕ) → run S.inputs a env left ≡ Runs events env' left' → run S.inputs b env' left' ≡ Runs [] env'' left' → run S.inputs (join a b) env left ≡ Runs events env'' left'
+goes_on_to S a b events env env' env'' left left' first second =
+    run_join S.inputs a b env left ∙ (ap (λ o. then_do o (run S.inputs b)) first ∙ (ap (after events) second ∙ ap (λ e. Runs e env'' left') (append-nil events)))
+
 -- ---- ends of turns with another state
 
 abbrev map_end : (List ℕ → List ℕ) → TurnEnd → TurnEnd
-map_end f (Goes events s h) = Goes events (f s) h
+map_end f (Goes events s h left) = Goes events (f s) h left
 map_end f (Ends events standing) = Ends events standing
 
 fed_with : (f : List ℕ → List ℕ) (s : List ℕ) (fed : Fed) → fed_end (f s) fed ≡ map_end f (fed_end s fed)
-fed_with f s (Takes events held) = refl
-fed_with f s (Refuses x) = refl
+fed_with f s (Takes events held left) = refl
+fed_with f s (Halts events standing) = refl
 
-end_with : (f : List ℕ → List ℕ) (c : Consumer) (width : ℕ) (h : List ℕ) (r : ActResult) → act_end c width h (with_state f r) ≡ map_end f (act_end c width h r)
-end_with f c width h (Continue s l) = fed_with f s (c.feed h (last width l))
-end_with f c width h (Skip s) = refl
-end_with f c width h (Halt s) = refl
-end_with f c width h (Break x) = refl
+end_with : (f : List ℕ → List ℕ) (c : Consumer) (width : ℕ) (r : ActResult) → act_end c width (with_state f r) ≡ map_end f (act_end c width r)
+end_with f c width (Continue s l) = fed_with f s (c.feed (last width l))
+end_with f c width (Skip s) = refl
+end_with f c width (Halt s) = fed_with f s c.stopped
+end_with f c width (Break x) = refl
 
 -- this holds of the state where the turn goes on
 abbrev StateOf : (List ℕ → Type 0) → TurnEnd → Type 0
-StateOf P (Goes events s h) = P s
+StateOf P (Goes events s h left) = P s
 StateOf P (Ends events standing) = Unit {0}
 
 fed_state : (P : List ℕ → Type 0) (s : List ℕ) (fed : Fed) → P s → StateOf P (fed_end s fed)
-fed_state P s (Takes events held) h = h
-fed_state P s (Refuses x) h = tt
+fed_state P s (Takes events held left) h = h
+fed_state P s (Halts events standing) h = tt
 
-end_state : (P : List ℕ → Type 0) (c : Consumer) (width : ℕ) (h : List ℕ) (r : ActResult) → AtState P r → StateOf P (act_end c width h r)
-end_state P c width h (Continue s l) p = fed_state P s (c.feed h (last width l)) p
-end_state P c width h (Skip s) p = p
-end_state P c width h (Halt s) p = tt
-end_state P c width h (Break x) p = tt
+end_state : (P : List ℕ → Type 0) (c : Consumer) (width : ℕ) (r : ActResult) → AtState P r → StateOf P (act_end c width r)
+end_state P c width (Continue s l) p = fed_state P s (c.feed (last width l)) p
+end_state P c width (Skip s) p = p
+end_state P c width (Halt s) p = fed_state P s c.stopped p
+end_state P c width (Break x) p = tt
 
 module _ (S : Setting) where
   -- ---- writes to the state
@@ -154,7 +160,7 @@ module _ (S : Setting) where
 
   -- ---- an update
 
-  module _ (k : ℕ) (es : List Term) (acts : Actions) (ih : IsTurned S acts) (c : Consumer) (tail : Tail) (rows : List ℕ) (next : ℕ) (live : ℕ → Bool) (s l h env : List ℕ) (serves : Serves S c tail) (b : Before S (Cons (Update k es) acts) c tail rows next live s l h env) where
+  module _ (k : ℕ) (es : List Term) (acts : Actions) (ih : IsTurned S acts) (c : Consumer) (tail : Tail) (rows : List ℕ) (next : ℕ) (live : ℕ → Bool) (s l env : List ℕ) (serves : Serves S c tail) (b : Before S (Cons (Update k es) acts) c tail rows next live s l env) where
     abbrev xs : List ℕ
     xs = word_values es (words_of S s l) S.inputs
 
@@ -191,23 +197,23 @@ module _ (S : Setting) where
     rest_grows : set.next ≤ rest.next
     rest_grows = acts_grow S.scope (length S.state_vars) S.t S.stop tail None acts rows set.next (λ row n. serves.tails.grows n row)
 
-    before_rest : Before S acts c tail rows next live s l h env
-    before_rest = rest_before S (Update k es) acts c tail rows next live s l h env b refl (λ j is. stays_behind S.scope (length S.state_vars) k es acts j is)
+    before_rest : Before S acts c tail rows next live s l env
+    before_rest = rest_before S (Update k es) acts c tail rows next live s l env b refl (λ j is. stays_behind S.scope (length S.state_vars) k es acts j is)
 
     writes : (test : Term → Bool) (env1 : List ℕ) → length env1 ≡ length env → rest.next ≤ length env → IsTrue (row_leaves test es) → Readable S.laws S.inputs S.small S.t S.temps rows (words_of S s l) test env1 → AreAlone S.laws S.inputs S.small S.t S.temps rows (words_of S s l) test (S.scope + k) (length es) → Written S.laws S.inputs S.small S.t S.temps rows (words_of S s l) set.block (S.scope + k) (length es) next env1 xs
     writes test env1 same room leaves readable alone =
         let small = b.small in let deep = b.layout.deep in
         subst (Writes S.laws S.inputs S.small S.t S.temps rows (words_of S s l) set.block (S.scope + k) (length es) next env1) (undivided_row S.laws S.inputs (words_of S s l) es sure.1)
         (row_writes S.laws S.inputs S.small S.t S.temps rows (words_of S s l) es (S.scope + k) next test env1
-        (lay S (Cons (Update k es) acts) c tail rows next live s l h env b (omega (arith, room, rest_grows, set_grows))) (omega (arith, within, deep)) (fits test leaves) readable alone
+        (lay S (Cons (Update k es) acts) c tail rows next live s l env b (omega (arith, room, rest_grows, set_grows))) (omega (arith, within, deep)) (fits test leaves) readable alone
         (omega (arith, room, rest_grows, set_grows, same)) (omega (arith, room, rest_grows, same)) (omega (arith, small, same)))
 
     -- ---- at once
 
-    at_once : may_wait S.scope (length S.state_vars) k es acts ≡ false → rest.next ≤ length env → Reaches S next c.vars (join set.block rest.block) env (act_end c tail.width h (run_from S acts (overwrite k xs s) l))
+    at_once : may_wait S.scope (length S.state_vars) k es acts ≡ false → rest.next ≤ length env → Reaches S next c (join set.block rest.block) env (act_end c tail.width (run_from S acts (overwrite k xs s) l))
     at_once none room =
-        reach_behind S set.block rest.block env w.env' next set.next c.vars (act_end c tail.width h (run_from S acts (overwrite k xs s) l)) set_grows w.runs w.same kept
-        (ih c tail rows set.next live (overwrite k xs s) l h w.env' serves after_set (omega (arith, room, w.same)))
+        reach_behind S set.block rest.block env w.env' next set.next c (act_end c tail.width (run_from S acts (overwrite k xs s) l)) set_grows (w.runs c.left) w.same kept
+        (ih c tail rows set.next live (overwrite k xs s) l w.env' serves after_set (omega (arith, room, w.same)))
       where
         alias_apart : (m : ℕ) → base S ≤ m → m < length rows → IsTrue (live m) → (j : ℕ) → j < length S.state_vars → slice_index rows m ≡ slice_index S.state_vars j → (j < k) ⊎ (k + length es ≤ j)
         alias_apart m low lt is j less e = not_set_at_once S.scope (length S.state_vars) k es acts j none (b.course.alias m low lt is j less e)
@@ -229,7 +235,7 @@ module _ (S : Setting) where
         w = writes (is_live live) env refl room (both_true (row_leaves (is_live live) es) (actions_leaves (is_live live) acts) b.course.reads).0 b.stands.in_place alone
 
         old_in : IsIn env S.state_vars s
-        old_in = before_in S (Cons (Update k es) acts) c tail rows next live s l h env b
+        old_in = before_in S (Cons (Update k es) acts) c tail rows next live s l env b
 
         kept : KeptBut S next c.vars env w.env'
         kept = over_kept rows next c.vars b.layout (words_of S s l) k (length es) within set.block env s xs old_in w
@@ -241,13 +247,13 @@ module _ (S : Setting) where
             other (inl before) = overwrite_before k xs s j before
             other (inr past) = overwrite_behind k xs s j (omega (arith, past, xs_long))
 
-        after_set : Before S acts c tail rows set.next live (overwrite k xs s) l h w.env'
+        after_set : Before S acts c tail rows set.next live (overwrite k xs s) l w.env'
         after_set = let small = b.small in record {
           layout = more_layout S rows next set.next c.vars set_grows b.layout;
           course = before_rest.course;
           stands = new_state S rows next c.vars live s l env (overwrite k xs s) w.env' b.layout b.course.old_live b.stands
               (over_in rows next c.vars b.layout (words_of S s l) k (length es) within set.block env s xs old_in w) kept same_word;
-          holds = over_held rows next c.vars b.layout (words_of S s l) k (length es) within set.block env s xs old_in w h b.holds;
+          holds = over_held rows next c.vars b.layout (words_of S s l) k (length es) within set.block env s xs old_in w c.held b.holds;
           small = omega (arith, small, w.same);
         }
 
@@ -302,10 +308,10 @@ module _ (S : Setting) where
                     word = there.word;
                   }
 
-      wait_reaches : (end : TurnEnd) → Reaches S set.next c.vars rest.block env end → StateOf (λ s1. IsSameState S.scope_words S.inputs (λ j. actions_keep j 1 acts) s s1) end → Reaches S next c.vars (join rest.block set.block) env (map_end (overwrite k xs) end)
-      wait_reaches (Goes events s1 h1) r same = record {
+      wait_reaches : (end : TurnEnd) → Reaches S set.next c rest.block env end → StateOf (λ s1. IsSameState S.scope_words S.inputs (λ j. actions_keep j 1 acts) s s1) end → Reaches S next c (join rest.block set.block) env (map_end (overwrite k xs) end)
+      wait_reaches (Goes events s1 h1 left) r same = record {
         env' = w.env';
-        runs = λ left. goes_on S.inputs rest.block set.block events env r.env' left (r.runs left) ∙ (ap (after events) (w.runs left) ∙ ap (λ e. Runs e w.env' left) (append-nil events));
+        runs = goes_on_to S rest.block set.block events env r.env' w.env' c.left left r.runs (w.runs left);
         same = w.same ∙ r.same;
         states = over_in rows next c.vars b.layout (words_of S s l) k (length es) within set.block r.env' s1 xs r.states w;
         holds = over_held rows next c.vars b.layout (words_of S s l) k (length es) within set.block r.env' s1 xs r.states w h1 r.holds;
@@ -317,24 +323,24 @@ module _ (S : Setting) where
 
           w : Written S.laws S.inputs S.small S.t S.temps rows (words_of S s l) set.block (S.scope + k) (length es) next r.env' xs
           w = writes lasts r.env' r.same room may.lasting (lasting_readable r.env' s1 r.states kept same) lasting_alone
-      wait_reaches (Ends events standing) r same = λ left. is_over S.inputs rest.block set.block events standing env left (r left)
+      wait_reaches (Ends events standing) r same = is_over S.inputs rest.block set.block events standing env c.left r
 
-      waiting : Reaches S next c.vars (join rest.block set.block) env (act_end c tail.width h (run_from S acts (overwrite k xs s) l))
+      waiting : Reaches S next c (join rest.block set.block) env (act_end c tail.width (run_from S acts (overwrite k xs s) l))
       waiting =
           let long = S.scope_long in
           let unread : IsTrue (are_unread (length S.scope_words + k) (length xs) acts) =
           subst (λ n. IsTrue (are_unread (n + k) (length xs) acts)) (sym long) (subst (λ n. IsTrue (are_unread (S.scope + k) n acts)) (sym xs_long) may.unread) in
           let keeps : IsTrue (actions_keep k (length xs) acts) = subst (λ n. IsTrue (actions_keep k n acts)) (sym xs_long) may.keeps in
-          subst (Reaches S next c.vars (join rest.block set.block) env)
-          (sym (ap (act_end c tail.width h) (acts_commute S.scope_words S.inputs k xs acts s l unread keeps) ∙ end_with (overwrite k xs) c tail.width h (run_from S acts s l)))
-          (wait_reaches (act_end c tail.width h (run_from S acts s l))
-          (ih c tail rows set.next live s l h env serves (later S acts c tail rows next live s l h env before_rest set.next env set_grows refl (λ v lt none. refl)) room)
-          (end_state (λ s1. IsSameState S.scope_words S.inputs (λ j. actions_keep j 1 acts) s s1) c tail.width h (run_from S acts s l) (acts_keep S.scope_words S.inputs acts s l)))
+          subst (Reaches S next c (join rest.block set.block) env)
+          (sym (ap (act_end c tail.width) (acts_commute S.scope_words S.inputs k xs acts s l unread keeps) ∙ end_with (overwrite k xs) c tail.width (run_from S acts s l)))
+          (wait_reaches (act_end c tail.width (run_from S acts s l))
+          (ih c tail rows set.next live s l env serves (later S acts c tail rows next live s l env before_rest set.next env set_grows refl (λ v lt none. refl)) room)
+          (end_state (λ s1. IsSameState S.scope_words S.inputs (λ j. actions_keep j 1 acts) s s1) c tail.width (run_from S acts s l) (acts_keep S.scope_words S.inputs acts s l)))
 
-    by_wait : (d : Bool) → may_wait S.scope (length S.state_vars) k es acts ≡ d → (update_piece d set (λ n. piece S tail None acts rows n)).next ≤ length env → Reaches S next c.vars (update_piece d set (λ n. piece S tail None acts rows n)).block env (act_end c tail.width h (run_from S acts (overwrite k xs s) l))
+    by_wait : (d : Bool) → may_wait S.scope (length S.state_vars) k es acts ≡ d → (update_piece d set (λ n. piece S tail None acts rows n)).next ≤ length env → Reaches S next c (update_piece d set (λ n. piece S tail None acts rows n)).block env (act_end c tail.width (run_from S acts (overwrite k xs s) l))
     by_wait true is room = waiting (waits S.scope (length S.state_vars) k es acts is) room
     by_wait false is room = at_once is room
 
   pub update_turned : (k : ℕ) (es : List Term) (acts : Actions) → IsTurned S acts → IsTurned S (Cons (Update k es) acts)
-  update_turned k es acts ih c tail rows next live s l h env serves b room =
-      by_wait k es acts ih c tail rows next live s l h env serves b (may_wait S.scope (length S.state_vars) k es acts) refl room
+  update_turned k es acts ih c tail rows next live s l env serves b room =
+      by_wait k es acts ih c tail rows next live s l env serves b (may_wait S.scope (length S.state_vars) k es acts) refl room

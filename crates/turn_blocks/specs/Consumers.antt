@@ -1,5 +1,5 @@
 -- What the terminals do with rows: they are printed, or folded into words that are held in variables.
-use Rattle.std.specs.Prelude.{◌≡◌, ℕ, ◌+◌, ◌≤◌, List, [], ◌∷◌, ◌++◌, length, nat_eq, IsTrue}
+use Rattle.std.specs.Prelude.{◌≡◌, false, ℕ, ◌+◌, ◌≤◌, List, [], ◌∷◌, ◌++◌, length, nat_eq, IsTrue}
 use Rattle.std.specs.List.{IsDistinct}
 use Rattle.list_denotation.specs.declared.input.Input.{Input}
 use Rattle.list_denotation.specs.Literals.{all_have_words}
@@ -12,7 +12,7 @@ use Rattle.loop_ir.specs.Statements.{Var, Emit, EndRow, Ret, Block, Nil, Cons, j
 use Rattle.turn_blocks.specs.Pieces.{Tail}
 use Rattle.turn_blocks.specs.StateBlocks.{words_piece}
 use Rattle.turn_blocks.specs.Temporaries.{row_temps}
-use Rattle.turn_blocks.specs.TurnContract.{Consumer, Fed, Takes, Refuses}
+use Rattle.turn_blocks.specs.TurnContract.{Taker, Taken, Holds, Refuses}
 
 -- a row of words in variables is printed
 abbrev pub print_block : List ℕ → Block
@@ -26,10 +26,10 @@ done = Cons (Ret verdict.Done) Nil
 -- ---- print: nothing is held
 
 abbrev pub print_tail : ℕ → Tail
-print_tail width = record { width = width; piece = λ row next. record { block = print_block row; next = next } }
+print_tail width = record { width = width; has_loop = false; piece = λ row next. record { block = print_block row; next = next } }
 
-abbrev pub print_consumer : Consumer
-print_consumer = record { vars = []; feed = λ held row. Takes (row_events row []) held; ending = λ held. [] }
+abbrev pub print_taker : Taker
+print_taker = record { vars = []; feed = λ held row. Holds (row_events row []) held; ending = λ held. [] }
 
 abbrev pub print_stop : Block
 print_stop = done
@@ -37,15 +37,15 @@ print_stop = done
 -- ---- fold: the words that are held are numbered first, and then those of the row
 
 abbrev pub fold_tail : List ℕ → ℕ → ℕ → List Term → Tail
-fold_tail vars t width next = record { width = width; piece = λ row n. words_piece (vars ++ row) t 0 next n }
+fold_tail vars t width next = record { width = width; has_loop = false; piece = λ row n. words_piece (vars ++ row) t 0 next n }
 
-abbrev pub fed_by : Got (List ℕ) → Fed
-fed_by (Is held) = Takes [] held
+abbrev pub fed_by : Got (List ℕ) → Taken
+fed_by (Is held) = Holds [] held
 fed_by (Fails f) = Refuses f
 
 -- what is held is printed at the end alone
-abbrev pub fold_consumer : List ℕ → List Term → List Input → Consumer
-fold_consumer vars next inputs = record {
+abbrev pub fold_taker : List ℕ → List Term → List Input → Taker
+fold_taker vars next inputs = record {
   vars = vars;
   feed = λ held row. fed_by (row_value next (held ++ row) inputs);
   ending = λ held. row_events held [];

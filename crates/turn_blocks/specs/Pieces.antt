@@ -1,5 +1,5 @@
 -- Statements that take variables for themselves, and what is done with the row of a turn.
-use Rattle.std.specs.Prelude.{ℕ, ◌+◌, ◌-◌, List, length, drop, if◌then◌else◌}
+use Rattle.std.specs.Prelude.{ℕ, ◌+◌, ◌-◌, Bool, false, List, length, drop, if◌then◌else◌}
 use Rattle.loop_ir.specs.Statements.{Const, If, Block, Nil, Cons, join}
 use Rattle.expr_forms.specs.Forms.{Condition, is_empty}
 use Rattle.expr_phrases.specs.Phrases.{set}
@@ -18,9 +18,10 @@ abbrev pub behind : Block → Piece → Piece
 behind first p = record { block = join first p.block; next = p.next }
 
 -- what stands behind the acts of a turn: the words that it takes, which are the last local words, and its piece, from the
--- variables of these words and the first free variable
+-- variables of these words and the first free variable; and whether a loop stands in it
 pub record Tail : Type 0 where
   pub width : ℕ
+  pub has_loop : Bool
   pub piece : List ℕ → ℕ → Piece
 
 -- the last so many of a list
@@ -31,12 +32,13 @@ last n xs = drop (length xs - n) xs
 abbrev pub mark : ℕ → Tail
 mark v = record {
   width = 0;
+  has_loop = false;
   piece = λ row next. record { block = set v (Const 1); next = next };
 }
 
 -- nothing stands behind acts that don't lead on
 abbrev pub nowhere : Tail
-nowhere = record { width = 0; piece = λ row next. no_piece next }
+nowhere = record { width = 0; has_loop = false; piece = λ row next. no_piece next }
 
 -- the variable behind one that the statements of a condition may have used
 abbrev pub behind_scratch : Condition → ℕ → ℕ

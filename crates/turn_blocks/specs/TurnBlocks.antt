@@ -25,6 +25,12 @@ abbrev pub constant_truth : Term → Option Bool
 constant_truth (Truth b) = Some b
 constant_truth _ = None
 
+-- what is known of a test. Where a loop stands behind it, one that is false is a test too, so that no loop is dropped
+abbrev pub known_truth : Bool → Term → Option Bool
+known_truth false e = constant_truth e
+known_truth true (Truth true) = Some true
+known_truth true _ = None
+
 abbrev pub is_none : Actions → Bool
 is_none Nil = true
 is_none (Cons a acts) = false
@@ -83,9 +89,9 @@ module _ (scope states t : ℕ) (stop : Block) where
   acts_piece tail held (Cons (Read a e) acts) rows next =
       behind (read_block a (lowered_term rows e next t) next) (acts_piece tail None acts (rows ++ next ∷ []) (next + 1))
   acts_piece tail held (Cons (KeepIf e) acts) rows next =
-      test_piece (constant_truth (tested held e)) (lowered_test rows (tested held e) next t) next (λ n. acts_piece tail None acts rows n) loop.Nil
+      test_piece (known_truth tail.has_loop (tested held e)) (lowered_test rows (tested held e) next t) next (λ n. acts_piece tail None acts rows n) loop.Nil
   acts_piece tail held (Cons (StopUnless e) acts) rows next =
-      test_piece (constant_truth (tested held e)) (lowered_test rows (tested held e) next t) next (λ n. acts_piece tail None acts rows n) stop
+      test_piece (known_truth tail.has_loop (tested held e)) (lowered_test rows (tested held e) next t) next (λ n. acts_piece tail None acts rows n) stop
   acts_piece tail held (Cons (Update k es) acts) rows next =
       update_piece (may_wait scope states k es acts) (words_piece rows t (scope + k) es next) (λ n. acts_piece tail None acts rows n)
   acts_piece tail held (Cons (When e a b) acts) rows next =

@@ -11,6 +11,7 @@ use Rattle.list_denotation.specs.Values.{Fault}
 use Rattle.loop_ir.specs.Statements.{Block}
 use Rattle.loop_ir.specs.Meaning.{Runs, Over, run}
 use Rattle.state_alloc.specs.Layouts.{IsLaidOut, IsTemporary, IsWordVariable}
+use Rattle.stateful_core.specs.Actions.{ActResult, Continue, Skip, Halt, Break}
 use Rattle.stateful_core.specs.CoreLeaves.{actions_leaves}
 use Rattle.stateful_core.specs.CoreShapes.{actions_locals}
 use Rattle.stateful_core.specs.CoreTerms.{Actions}
@@ -21,31 +22,67 @@ use Rattle.turn_blocks.specs.Temporaries.{row_temps, acts_temps}
 
 -- ---- who takes the rows
 
--- what is done with a row: events, and what is held then; or a fault
+-- what comes of a row: events, what is held then and the turns that are left; or the run is over, with these events
 pub data Fed : Type 0 where
-  Takes : (events : List Event) → (held : List ℕ) → Fed
-  Refuses : Fault → Fed
+  Takes : (events : List Event) → (held : List ℕ) → (left : ℕ) → Fed
+  Halts : (events : List Event) → Standing → Fed
 
--- the variables of the words that it holds, what it does with a row, and what is seen of what it holds where the stream stops
+-- the variables of the words that it holds, these words, and how many turns of loops are left; what comes of a row, and what
+-- comes of a stop
 pub record Consumer : Type 0 where
   pub vars : List ℕ
-  pub feed : List ℕ → List ℕ → Fed
+  pub held : List ℕ
+  pub left : ℕ
+  pub feed : List ℕ → Fed
+  pub stopped : Fed
+
+-- what a terminal does with a row, which takes no turns: events, and what is held then; or a fault
+pub data Taken : Type 0 where
+  Holds : (events : List Event) → (held : List ℕ) → Taken
+  Refuses : Fault → Taken
+
+-- a terminal: the variables of the words that it holds, what it does with what is held and a row, and what is seen of what it
+-- holds where the stream stops
+pub record Taker : Type 0 where
+  pub vars : List ℕ
+  pub feed : List ℕ → List ℕ → Taken
   pub ending : List ℕ → List Event
 
--- how a turn ends: the next one begins with this state and what is held, or the run is over
+abbrev pub taken : ℕ → Taken → Fed
+taken left (Holds events held) = Takes events held left
+taken left (Refuses f) = Halts [] (Failed f)
+
+abbrev pub consumer_of : Taker → List ℕ → ℕ → Consumer
+consumer_of taker held left = record {
+  vars = taker.vars;
+  held = held;
+  left = left;
+  feed = λ row. taken left (taker.feed held row);
+  stopped = Halts (taker.ending held) Done;
+}
+
+-- how a turn ends: what follows begins with this state, what is held and the turns that are left; or the run is over
 pub data TurnEnd : Type 0 where
-  Goes : (events : List Event) → (state held : List ℕ) → TurnEnd
+  Goes : (events : List Event) → (state held : List ℕ) → (left : ℕ) → TurnEnd
   Ends : (events : List Event) → Standing → TurnEnd
 
 abbrev pub fed_end : List ℕ → Fed → TurnEnd
-fed_end state (Takes events held) = Goes events state held
-fed_end state (Refuses f) = Ends [] (Failed f)
+fed_end state (Takes events held left) = Goes events state held left
+fed_end state (Halts events standing) = Ends events standing
 
+-- the state that acts come to, wherever they lead
+abbrev pub come_to : ActResult → List ℕ
+come_to (Continue state locals) = state
+come_to (Skip state) = state
+come_to (Halt state) = state
+come_to (Break f) = []
+
+-- a stop leaves the state that the acts have come to
 abbrev pub turn_end_of : Consumer → List ℕ → Turn (List ℕ) → TurnEnd
-turn_end_of c held (Gives row state) = fed_end state (c.feed held row)
-turn_end_of c held (Skips state) = Goes [] state held
-turn_end_of c held Stops = Ends (c.ending held) Done
-turn_end_of c held (Breaks f) = Ends [] (Failed f)
+turn_end_of c come (Gives row state) = fed_end state (c.feed row)
+turn_end_of c come (Skips state) = Goes [] state c.held c.left
+turn_end_of c come Stops = fed_end come c.stopped
+turn_end_of c come (Breaks f) = Ends [] (Failed f)
 
 -- ---- where words stand
 
@@ -79,60 +116,66 @@ IsKept frame but env env' =
 -- ---- what the statements behind the acts do
 
 module _ (inputs : List Input) where
-  pub record TakesRow (frame : Frame) (c : Consumer) (block : Block) (env : List ℕ) (events : List Event) (held : List ℕ) : Type 0 where
+  pub record TakesRow (frame : Frame) (c : Consumer) (block : Block) (env : List ℕ) (events : List Event) (held : List ℕ) (left : ℕ) : Type 0 where
     pub env' : List ℕ
-    pub runs : (left : ℕ) → run inputs block env left ≡ Runs events env' left
+    pub runs : run inputs block env c.left ≡ Runs events env' left
     pub same : length env' ≡ length env
     pub holds : IsIn env' c.vars held
     pub kept : IsKept frame c.vars env env'
 
   abbrev pub FeedRuns : Frame → Consumer → Block → List ℕ → Fed → Type 0
-  FeedRuns frame c block env (Takes events held) = TakesRow frame c block env events held
-  FeedRuns frame c block env (Refuses f) = (left : ℕ) → run inputs block env left ≡ Over [] (Failed f)
+  FeedRuns frame c block env (Takes events held left) = TakesRow frame c block env events held left
+  FeedRuns frame c block env (Halts events standing) = run inputs block env c.left ≡ Over events standing
 
-  -- whatever the row and what is held, the statements do with them what the consumer does
-  pub record IsTailOf (first_temp temps : ℕ) (c : Consumer) (tail : Tail) : Type 0 where
-    pub runs : (next : ℕ) (vars row held env : List ℕ)
-        → IsLaidOut (c.vars ++ vars) first_temp temps next → All (λ v. ¬ Contains c.vars v) vars → length vars ≡ tail.width
+  -- whatever the row, the statements do with it what the consumer does, where the words of the scope stand in its variables and
+  -- what is held in those of the consumer
+  pub record IsTailOf (first_temp temps : ℕ) (scope_vars scope_words : List ℕ) (c : Consumer) (tail : Tail) : Type 0 where
+    pub runs : (next : ℕ) (vars row env : List ℕ)
+        → IsLaidOut (c.vars ++ (scope_vars ++ vars)) first_temp temps next → All (λ v. ¬ Contains c.vars v) (scope_vars ++ vars)
+        → length vars ≡ tail.width
         → (tail.piece vars next).next ≤ length env → length env < 2 ^ 32
-        → IsIn env vars row → IsIn env c.vars held
-        → FeedRuns (record { first_temp = first_temp; temps = temps; next = next }) c (tail.piece vars next).block env (c.feed held row)
+        → IsIn env scope_vars scope_words → IsIn env vars row → IsIn env c.vars c.held
+        → FeedRuns (record { first_temp = first_temp; temps = temps; next = next }) c (tail.piece vars next).block env (c.feed row)
     pub grows : (next : ℕ) (vars : List ℕ) → next ≤ (tail.piece vars next).next
 
-  -- where the stream stops, what is held ends the run
-  abbrev pub IsStopOf : Consumer → Block → Type 0
-  IsStopOf c stop = (held env : List ℕ) (left : ℕ) → IsIn env c.vars held → run inputs stop env left ≡ Over (c.ending held) Done
+  -- where the stream stops, the statements do what the consumer does at a stop. They take no variable
+  abbrev pub IsStopOf : ℕ → ℕ → Consumer → Block → Type 0
+  IsStopOf first_temp temps c stop =
+      (next : ℕ) (env : List ℕ) → IsLaidOut c.vars first_temp temps next → next ≤ length env → length env < 2 ^ 32 → IsIn env c.vars c.held
+      → FeedRuns (record { first_temp = first_temp; temps = temps; next = next }) c stop env c.stopped
 
   -- ---- what the statements of a turn do
 
-  pub record Leads (frame : Frame) (c : Consumer) (state_vars : List ℕ) (block : Block) (env : List ℕ) (events : List Event) (state held : List ℕ) : Type 0 where
+  pub record Leads (frame : Frame) (c : Consumer) (state_vars : List ℕ) (block : Block) (env : List ℕ) (events : List Event) (state held : List ℕ) (left : ℕ) : Type 0 where
     pub env' : List ℕ
-    pub runs : (left : ℕ) → run inputs block env left ≡ Runs events env' left
+    pub runs : run inputs block env c.left ≡ Runs events env' left
     pub same : length env' ≡ length env
     pub states : IsIn env' state_vars state
     pub holds : IsIn env' c.vars held
     pub kept : IsKept frame (state_vars ++ c.vars) env env'
 
   abbrev pub TurnRuns : Frame → Consumer → List ℕ → Block → List ℕ → TurnEnd → Type 0
-  TurnRuns frame c state_vars block env (Goes events state held) = Leads frame c state_vars block env events state held
-  TurnRuns frame c state_vars block env (Ends events standing) = (left : ℕ) → run inputs block env left ≡ Over events standing
+  TurnRuns frame c state_vars block env (Goes events state held left) = Leads frame c state_vars block env events state held left
+  TurnRuns frame c state_vars block env (Ends events standing) = run inputs block env c.left ≡ Over events standing
 
 -- ---- what is asked for
 
--- the words of the scope stand in these variables and those of the state in those; the variables of the state differ from one
--- another and from those of the scope, and what the consumer holds stands in others still
-pub record IsTurnLayout (frame : Frame) (scope_vars state_vars held_vars : List ℕ) : Type 0 where
-  pub laid_out : IsLaidOut (scope_vars ++ state_vars) frame.first_temp frame.temps frame.next
+-- the words of the scope stand in these variables, those of the state in those, and the first local words, which are a row, in
+-- others still; the variables of the state differ from one another, from those of the scope and from those of the row, and what
+-- the consumer holds stands in others still
+pub record IsTurnLayout (frame : Frame) (scope_vars state_vars row_vars held_vars : List ℕ) : Type 0 where
+  pub laid_out : IsLaidOut (scope_vars ++ (state_vars ++ row_vars)) frame.first_temp frame.temps frame.next
   pub states_differ : (i j : ℕ) → i < length state_vars → j < length state_vars → slice_index state_vars i ≡ slice_index state_vars j → i ≡ j
   pub scope_differs : All (λ v. ¬ Contains state_vars v) scope_vars
+  pub row_differs : All (λ v. ¬ Contains state_vars v) row_vars
   pub held_given : All (IsWordVariable frame.first_temp frame.temps frame.next) held_vars
-  pub held_differs : All (λ v. ¬ Contains (scope_vars ++ state_vars) v) held_vars
+  pub held_differs : All (λ v. ¬ Contains (scope_vars ++ (state_vars ++ row_vars)) v) held_vars
 
--- acts and a row that are well formed where so many words are bound before the state, and so many are the state; their numbers
--- are words, and so many temporaries are enough
-pub record IsTurn (scope states temps : ℕ) (acts : Actions) (item : List Term) : Type 0 where
-  pub acts_sound : IsTrue (are_sound_actions states (scope + states) acts)
-  pub item_sound : IsTrue (all_sure (scope + states + actions_locals acts) item)
+-- acts and a row that are well formed where so many words are bound before the state, so many are the state, and so many local
+-- words are there already; their numbers are words, and so many temporaries are enough
+pub record IsTurn (scope states locals temps : ℕ) (acts : Actions) (item : List Term) : Type 0 where
+  pub acts_sound : IsTrue (are_sound_actions states (scope + states + locals) acts)
+  pub item_sound : IsTrue (all_sure (scope + states + locals + actions_locals acts) item)
   pub acts_words : IsTrue (actions_leaves is_word_leaf acts)
   pub item_words : IsTrue (all_have_words item)
   pub acts_few : acts_temps acts ≤ temps

@@ -8,15 +8,16 @@ ghost use Rattle.list_denotation.specs.Terms.{Term};
 ghost use Rattle.loop_ir.specs.Constants.{block_has_words};
 ghost use Rattle.loop_ir.specs.DeclaredNames.{declared_names, block_names};
 ghost use Rattle.loop_ir.specs.Statements.{Block};
+ghost use Rattle.stateful_core.specs.Actions.{run_acts};
 ghost use Rattle.stateful_core.specs.CoreLeaves.{actions_leaves};
 ghost use Rattle.stateful_core.specs.CoreRows.{core_turn};
 ghost use Rattle.stateful_core.specs.CoreTerms.{Actions};
 ghost use Rattle.stateful_core.specs.MostWords.{actions_words};
-ghost use Rattle.turn_blocks.specs.Consumers.{print_consumer, print_tail, print_stop, fold_consumer, fold_tail, fold_stop, IsFold};
+ghost use Rattle.turn_blocks.specs.Consumers.{print_taker, print_tail, print_stop, fold_taker, fold_tail, fold_stop, IsFold};
 ghost use Rattle.turn_blocks.specs.Laws.{Laws};
 ghost use Rattle.turn_blocks.specs.Pieces.{Tail};
 ghost use Rattle.turn_blocks.specs.TurnBlocks.{acts_piece, turn_acts};
-ghost use Rattle.turn_blocks.specs.TurnContract.{Consumer, turn_end_of, IsIn, HasWordInputs, Frame, IsTailOf, IsStopOf, TurnRuns, IsTurnLayout, IsTurn};
+ghost use Rattle.turn_blocks.specs.TurnContract.{Consumer, consumer_of, come_to, turn_end_of, IsIn, HasWordInputs, Frame, IsTailOf, IsStopOf, TurnRuns, IsTurnLayout, IsTurn};
 
 use denotation_laws::undivided_expressions_have_values;
 use expr_constants::constants_are_values;
@@ -38,25 +39,28 @@ fn laws_below()
 }
 
 /// The statements of a turn do what the turn does, and then with its row what is done with rows:
-/// they lead to the next state, with the events of the row; they end the run where the stream
-/// stops, with what is seen then; and they end it at the fault where there is one. They take no
-/// turn of a loop, and change nothing else that was given out but temporaries.
+/// they lead to the next state, with the events of the row; where the stream stops they do what is
+/// done at a stop; and they end the run at the fault where there is one. They spend no turn of a loop
+/// but those of what is done with the row, and change nothing else that was given out but temporaries.
 pub fn turns_are_lowered()
-    ensures { (frame : Frame) (scope_vars state_vars : List ℕ) (c : Consumer) (tail : Tail)
+    ensures { (frame : Frame) (scope_vars state_vars row_vars : List ℕ) (c : Consumer) (tail : Tail)
         (stop : Block) (acts : Actions) (item : List Term) (inputs : List Input)
-        (scope_words state held env : List ℕ)
-        → IsTurnLayout frame scope_vars state_vars c.vars
-        → IsTurn (length scope_vars) (length state_vars) frame.temps acts item
-        → IsTailOf inputs frame.first_temp frame.temps c tail → tail.width ≡ length item
-        → IsStopOf inputs c stop → HasWordInputs inputs
-        → IsIn env scope_vars scope_words → IsIn env state_vars state → IsIn env c.vars held
+        (scope_words state row env : List ℕ)
+        → IsTurnLayout frame scope_vars state_vars row_vars c.vars
+        → IsTurn (length scope_vars) (length state_vars) (length row_vars) frame.temps acts item
+        → IsTailOf inputs frame.first_temp frame.temps scope_vars scope_words c tail
+        → tail.width ≡ length item
+        → IsStopOf inputs frame.first_temp frame.temps c stop → HasWordInputs inputs
+        → IsIn env scope_vars scope_words → IsIn env state_vars state → IsIn env row_vars row
+        → IsIn env c.vars c.held
         → (acts_piece (length scope_vars) (length state_vars) frame.first_temp stop tail None
-        (turn_acts acts item) (scope_vars ++ state_vars) frame.next).next ≤ length env
+        (turn_acts acts item) (scope_vars ++ (state_vars ++ row_vars)) frame.next).next ≤ length env
         → length env < 2 ^ 32
         → TurnRuns inputs frame c state_vars
         (acts_piece (length scope_vars) (length state_vars) frame.first_temp stop tail None
-        (turn_acts acts item) (scope_vars ++ state_vars) frame.next).block env
-        (turn_end_of c held (core_turn acts item scope_words inputs state [])) }
+        (turn_acts acts item) (scope_vars ++ (state_vars ++ row_vars)) frame.next).block env
+        (turn_end_of c (come_to (run_acts acts scope_words inputs state row))
+        (core_turn acts item scope_words inputs state row)) }
 {
     laws_below();
 }
@@ -64,15 +68,22 @@ pub fn turns_are_lowered()
 /// A row is printed, or folded into what is held: the statements that do so, and those that end the
 /// run where the stream stops.
 pub fn rows_are_taken()
-    ensures prints { (inputs : List Input) (first_temp temps width : ℕ)
-        → IsTailOf inputs first_temp temps print_consumer (print_tail width) }
-    ensures print_stops { (inputs : List Input) → IsStopOf inputs print_consumer print_stop }
-    ensures folds { (inputs : List Input) (first_temp temps width : ℕ) (vars : List ℕ)
-        (next : List Term) → HasWordInputs inputs → IsFold vars width temps next
-        → IsTailOf inputs first_temp temps (fold_consumer vars next inputs)
+    ensures prints { (inputs : List Input) (first_temp temps width left : ℕ)
+        (scope_vars scope_words held : List ℕ)
+        → IsTailOf inputs first_temp temps scope_vars scope_words
+        (consumer_of print_taker held left) (print_tail width) }
+    ensures print_stops { (inputs : List Input) (first_temp temps left : ℕ) (held : List ℕ)
+        → IsStopOf inputs first_temp temps (consumer_of print_taker held left) print_stop }
+    ensures folds { (inputs : List Input) (first_temp temps width left : ℕ)
+        (scope_vars scope_words vars held : List ℕ) (next : List Term)
+        → HasWordInputs inputs → IsFold vars width temps next
+        → IsTailOf inputs first_temp temps scope_vars scope_words
+        (consumer_of (fold_taker vars next inputs) held left)
         (fold_tail vars first_temp width next) }
-    ensures fold_stops { (inputs : List Input) (vars : List ℕ) (next : List Term)
-        → IsStopOf inputs (fold_consumer vars next inputs) (fold_stop vars) }
+    ensures fold_stops { (inputs : List Input) (first_temp temps left : ℕ) (vars held : List ℕ)
+        (next : List Term)
+        → IsStopOf inputs first_temp temps
+        (consumer_of (fold_taker vars next inputs) held left) (fold_stop vars) }
     ensures print_few { (width n : ℕ) (row : List ℕ) → ((print_tail width).piece row n).next ≡ n }
     ensures fold_few { (vars row : List ℕ) (first_temp width n : ℕ) (next : List Term)
         → ((fold_tail vars first_temp width next).piece row n).next ≤ n + length next }
@@ -99,9 +110,9 @@ pub fn rows_are_taken()
 /// and its row name, in the same way, if what is done with the row and at a stop does so too. Their
 /// constants are words, and they take no more variables than the acts and the row add words.
 pub fn turns_name_declared_variables()
-    ensures names { (kinds : List InputKind) (vars scope states first_temp temps next : ℕ)
+    ensures names { (kinds : List InputKind) (vars scope states locals first_temp temps next : ℕ)
         (rows : List ℕ) (tail : Tail) (stop : Block) (acts : Actions) (item : List Term)
-        → IsTurn scope states temps acts item → length rows ≡ scope + states
+        → IsTurn scope states locals temps acts item → length rows ≡ scope + states + locals
         → All (λ v. v < next) rows → first_temp + temps ≤ next
         → IsTrue (actions_leaves (is_named_leaf (declared_inputs kinds)) acts)
         → IsTrue (all_name_inputs (declared_inputs kinds) item)
@@ -115,16 +126,16 @@ pub fn turns_name_declared_variables()
         ≤ vars
         → IsTrue (block_names (declared_names kinds vars)
         (acts_piece scope states first_temp stop tail None (turn_acts acts item) rows next).block) }
-    ensures constants { (scope states first_temp temps next : ℕ) (rows : List ℕ) (tail : Tail)
+    ensures constants { (scope states locals first_temp temps next : ℕ) (rows : List ℕ) (tail : Tail)
         (stop : Block) (acts : Actions) (item : List Term)
-        → IsTurn scope states temps acts item → length rows ≡ scope + states
+        → IsTurn scope states locals temps acts item → length rows ≡ scope + states + locals
         → IsTrue (block_has_words stop)
         → ((row : List ℕ) (n : ℕ) → IsTrue (block_has_words (tail.piece row n).block))
         → IsTrue (block_has_words
         (acts_piece scope states first_temp stop tail None (turn_acts acts item) rows next).block) }
-    ensures few { (scope states first_temp temps next most : ℕ) (rows : List ℕ) (tail : Tail)
+    ensures few { (scope states locals first_temp temps next most : ℕ) (rows : List ℕ) (tail : Tail)
         (stop : Block) (acts : Actions) (item : List Term)
-        → IsTurn scope states temps acts item → length rows ≡ scope + states
+        → IsTurn scope states locals temps acts item → length rows ≡ scope + states + locals
         → ((row : List ℕ) (n : ℕ) → (tail.piece row n).next ≤ n + most)
         → (acts_piece scope states first_temp stop tail None (turn_acts acts item) rows next).next
         ≤ next + actions_words scope acts + length item + most }

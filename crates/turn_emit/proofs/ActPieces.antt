@@ -18,7 +18,7 @@ use Rattle.stateful_core.specs.CoreTerms.{Action, Let, KeepIf, StopUnless, Updat
 use Rattle.stateful_core.specs.WellFormed.{is_sure, all_sure, are_sound_actions}
 use Rattle.turn_blocks.specs.Pieces.{Piece, behind_scratch}
 use Rattle.turn_blocks.specs.StateBlocks.{words_piece}
-use Rattle.turn_blocks.specs.TurnBlocks.{tested, constant_truth, is_none, choose_piece, let_piece, test_piece, update_piece, second_leaves}
+use Rattle.turn_blocks.specs.TurnBlocks.{tested, constant_truth, known_truth, is_none, choose_piece, let_piece, test_piece, update_piece, second_leaves}
 use Rattle.turn_blocks.specs.WordUses as uses
 use Rattle.turn_blocks.specs.WordUses.{LetUse, are_unread, never_go_on, may_wait, is_steady, is_test_of, copy_use, let_use}
 use Rattle.row_emit.specs.declared.tails.Tail.{Tail}
@@ -113,11 +113,18 @@ stop_readable turn held e acts rows t temps next x r h ex =
     (tested_readable (length rows) temps held e h
     (record { bound = (both_true (is_bound (length rows) e) (is_undivided e) (first_sound turn (StopUnless e) acts rows t temps next r)).0; temporaries = first_temps turn (StopUnless e) acts rows t temps next r }))
 
+-- no loop stands in what is done with a row, so that a constant is no test
+known_same : (t : ℕ) (tl : Tail) (e : Term) → known_truth (tail_of t tl).has_loop e ≡ constant_truth e
+known_same t (tail.Print width) e = refl
+known_same t (tail.Fold vars es width) e = refl
+known_same t (tail.Mark v) e = refl
+known_same t tail.Nowhere e = refl
+
 pub test_none : (turn : Turn) (e : Term) (acts : Actions) (rows : List ℕ) (t n : ℕ) (off : Block) → None ≡ constant_truth e → test_piece_at turn e acts rows t n off ≡ choose_piece (lowered_test rows e n t) (piece_at turn None acts rows t (behind_scratch (lowered_test rows e n t) n)) off
-test_none turn e acts rows t n off h = ap (λ o. test_piece o (lowered_test rows e n t) n (λ m. piece_at turn None acts rows t m) off) (sym h)
+test_none turn e acts rows t n off h = ap (λ o. test_piece o (lowered_test rows e n t) n (λ m. piece_at turn None acts rows t m) off) (known_same t turn.tail e ∙ sym h)
 
 pub test_false : (turn : Turn) (e : Term) (acts : Actions) (rows : List ℕ) (t n : ℕ) (off : Block) → Some false ≡ constant_truth e → test_piece_at turn e acts rows t n off ≡ record { block = off; next = n }
-test_false turn e acts rows t n off h = ap (λ o. test_piece o (lowered_test rows e n t) n (λ m. piece_at turn None acts rows t m) off) (sym h)
+test_false turn e acts rows t n off h = ap (λ o. test_piece o (lowered_test rows e n t) n (λ m. piece_at turn None acts rows t m) off) (known_same t turn.tail e ∙ sym h)
 
 -- ---- updates
 

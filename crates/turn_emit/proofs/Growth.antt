@@ -10,7 +10,7 @@ use Rattle.expr_lower.specs.Lowering.{lowered_test}
 use Rattle.stateful_core.specs.CoreTerms.{Let, Read, KeepIf, StopUnless, Update, When, Actions, Nil, Cons}
 use Rattle.turn_blocks.specs.Pieces.{Piece, Tail, last, mark, nowhere, behind_scratch}
 use Rattle.turn_blocks.specs.StateBlocks.{words_piece}
-use Rattle.turn_blocks.specs.TurnBlocks.{tested, constant_truth, is_none, let_piece, test_piece, update_piece, acts_piece}
+use Rattle.turn_blocks.specs.TurnBlocks.{tested, known_truth, is_none, let_piece, test_piece, update_piece, acts_piece}
 use Rattle.turn_blocks.specs.WordUses as uses
 use Rattle.turn_blocks.specs.WordUses.{LetUse, let_use, may_wait, never_go_on}
 use Rattle.row_emit.specs.declared.tails.Tail as code
@@ -66,10 +66,10 @@ module _ (words_grow : WordsGrow) (scope states t : ℕ) (stop : Block) where
       (λ h r n. acts_grow tail grows h acts r n)
   acts_grow tail grows held (Cons (Read a e) acts) rows next = omega (arith, acts_grow tail grows None acts (rows ++ next ∷ []) (next + 1))
   acts_grow tail grows held (Cons (KeepIf e) acts) rows next =
-      test_grows (constant_truth (tested held e)) (lowered_test rows (tested held e) next t) next (λ n. acts_piece scope states t stop tail None acts rows n) loop.Nil
+      test_grows (known_truth tail.has_loop (tested held e)) (lowered_test rows (tested held e) next t) next (λ n. acts_piece scope states t stop tail None acts rows n) loop.Nil
       (λ n. acts_grow tail grows None acts rows n)
   acts_grow tail grows held (Cons (StopUnless e) acts) rows next =
-      test_grows (constant_truth (tested held e)) (lowered_test rows (tested held e) next t) next (λ n. acts_piece scope states t stop tail None acts rows n) stop
+      test_grows (known_truth tail.has_loop (tested held e)) (lowered_test rows (tested held e) next t) next (λ n. acts_piece scope states t stop tail None acts rows n) stop
       (λ n. acts_grow tail grows None acts rows n)
   acts_grow tail grows held (Cons (Update k es) acts) rows next =
       update_grows (may_wait scope states k es acts) (words_piece rows t (scope + k) es next) next (λ n. acts_piece scope states t stop tail None acts rows n)

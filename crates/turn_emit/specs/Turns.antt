@@ -14,7 +14,7 @@ use Rattle.stateful_core.specs.CoreTerms.{Actions}
 use Rattle.stateful_core.specs.WellFormed.{are_sound_actions}
 use Rattle.turn_blocks.specs.Pieces.{Piece, behind_scratch, choose}
 use Rattle.turn_blocks.specs.Temporaries.{acts_temps}
-use Rattle.turn_blocks.specs.TurnBlocks.{constant_truth, test_piece, rejoined, acts_piece}
+use Rattle.turn_blocks.specs.TurnBlocks.{known_truth, test_piece, rejoined, acts_piece}
 use Rattle.row_emit.specs.declared.tails.Tail.{Tail}
 use Rattle.row_emit.specs.declared.tails.Tail.TheVariants as tail
 use Rattle.turn_emit.specs.declared.turns.Turn.{Turn}
@@ -37,7 +37,7 @@ piece_of turn held acts slots = piece_at turn held acts slots.rows slots.first_t
 -- those of a test, with the acts in the branch that goes on and other statements in the other one
 abbrev pub test_piece_at : Turn → Term → Actions → List ℕ → ℕ → ℕ → Block → Piece
 test_piece_at turn e acts rows t next off =
-    test_piece (constant_truth e) (lowered_test rows e next t) next (λ n. piece_at turn None acts rows t n) off
+    test_piece (known_truth (tail_of t turn.tail).has_loop e) (lowered_test rows e next t) next (λ n. piece_at turn None acts rows t n) off
 
 -- those of acts whose variables are behind those of others
 abbrev pub second_piece : Turn → Actions → Turn → Actions → List ℕ → ℕ → ℕ → Piece

@@ -11,7 +11,7 @@ pub returns-clause-print_stops : goal.returns-clause-print_stops
 returns-clause-print_stops c = print_stops
 
 pub returns-clause-folds : goal.returns-clause-folds
-returns-clause-folds c = λ inputs t temps width vars next small fold. folds c.laws_below.ensures inputs small t temps width vars next fold
+returns-clause-folds c = λ inputs t temps width left scope_vars scope_words vars held next small fold. folds c.laws_below.ensures inputs small t temps width left scope_vars scope_words vars held next fold
 
 pub returns-clause-fold_stops : goal.returns-clause-fold_stops
 returns-clause-fold_stops c = fold_stops

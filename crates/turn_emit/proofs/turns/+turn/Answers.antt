@@ -552,3 +552,23 @@ put_rejoined-returns t c =
     c.in_ok-test.ensures.block (ap test_of c.into_inner.ensures ∙ c.in_ok-test.ensures.test) c.in_ok-push-2.ensures.ok mark mark (actions_of c.args.choice.on.now) (actions_of c.args.choice.off.now) c.in_ok-on.ensures.first c.in_ok-on.ensures.second c.in_ok-on.ensures.slots)
     c.new-behind.ensures c.in_ok-put_acts.ensures (ap test_of c.into_inner-2.ensures ∙ c.in_ok-led_on.ensures) c.new.ensures is)
     c.push-3.ensures.ok
+
+pub put_act-returns-in-KeepIf : goal.put_act-returns-in-KeepIf
+put_act-returns-in-KeepIf t c =
+    let slots = c.args.slots.now in
+    let e = term_of c.in-KeepIf.e in
+    let shape : action_of c.args.act.now ≡ KeepIf e = ap action_of c.in-KeepIf.is ∙ keep_copy c.in-KeepIf.e in
+    on_ok_weaker c.put_test.result
+    (λ h. puts_of slots c.put_test.new.slots c.args.block.now c.put_test.new.block _ _
+    (keep_same c.args.turn (held_of c.args.held) (action_of c.args.act.now) e (actions_of c.args.rest.now) slots.rows slots.first_temp slots.next (term_of c.tested.result.now) (block_of c.new-off.result) shape c.tested.ensures (ap block_of c.new-off.ensures)) h)
+    c.put_test.ensures
+
+pub put_act-returns-in_ok-put_stop-in-StopUnless : goal.put_act-returns-in_ok-put_stop-in-StopUnless
+put_act-returns-in_ok-put_stop-in-StopUnless t c =
+    let slots = c.args.slots.now in
+    let e = term_of c.in-StopUnless.e in
+    let shape : action_of c.args.act.now ≡ StopUnless e = ap action_of c.in-StopUnless.is ∙ stop_copy c.in-StopUnless.e in
+    on_ok_weaker c.put_test-in-StopUnless.result
+    (λ h. puts_of slots c.put_test-in-StopUnless.new.slots c.args.block.now c.put_test-in-StopUnless.new.block _ _
+    (stop_same c.args.turn (held_of c.args.held) (action_of c.args.act.now) e (actions_of c.args.rest.now) slots.rows slots.first_temp slots.next (term_of c.tested-in-StopUnless.result.now) (block_of c.put_stop.new.block) shape c.tested-in-StopUnless.ensures (c.in_ok-put_stop-in-StopUnless.ensures ∙ ap (λ l. join (block_of l) (stop_of c.args.turn.stop)) c.new-off-in-StopUnless.ensures)) h)
+    c.put_test-in-StopUnless.ensures
