@@ -12,7 +12,7 @@ use Rattle.list_denotation.specs.Work.{row_count}
 use Rattle.stateful_core.specs.CoreTerms.{Action, Let, Read, KeepIf, StopUnless, Update, When, Actions, Nil, Cons}
 use Rattle.stateful_core.specs.WordValues.{word_value}
 use Rattle.stateful_core.specs.Actions.{ActResult, Continue, Skip, Halt, Break, then_run, with_locals, let_word, read_item, run_act, run_acts}
-use Rattle.stateful_core.specs.Turns.{after_turn, turn_rows, count_turn, turn_count}
+use Rattle.stateful_core.specs.Turns.{Skips, after_turn, turn_rows, count_turn, turn_count}
 use Rattle.stateful_core.specs.CoreRows.{turn_end, core_turn, guard_value}
 use Rattle.stateful_core.specs.CoreShapes.{is_exact_action, are_exact_actions}
 use Rattle.stateful_core.specs.StreamCores.{variables, let_all, set_state, next_state}
@@ -66,6 +66,15 @@ module _ (env : List ℕ) (inputs : List Input) where
     keeps_acts (Cons a acts) s l h =
         let p = both_true (is_exact_action a) (are_exact_actions acts) h in
         keeps_then (run_act a env inputs s l) _ (keeps_act a s l p.0) (λ t k. keeps_acts acts t k p.1)
+
+  no_skip : (u : ActResult) (item : List ℕ → List ℕ → List ℕ) (t : List ℕ) → KeepsRow u → turn_end u item ≡ Skips t → ⊥
+  no_skip (Continue s l) item t h e = cc
+  no_skip (Skip s) item t h e = h
+  no_skip (Halt s) item t h e = cc
+  no_skip (Break f) item t h e = cc
+
+  pub exact_never : (acts : Actions) (item : List Term) (s r t : List ℕ) → IsTrue (are_exact_actions acts) → core_turn acts item env inputs s r ≡ Skips t → ⊥
+  exact_never acts item s r t h e = no_skip (run_acts acts env inputs s r) _ t (keeps_acts acts s r h) e
 
   count_end : (u : ActResult) → KeepsRow u → (item : List ℕ → List ℕ → List ℕ) (f : List ℕ → ℕ) (g : List ℕ → Rows) → ((s : List ℕ) → f s ≡ row_count (g s)) → count_turn (turn_end u item) f ≡ row_count (after_turn (turn_end u item) g)
   count_end (Continue s l) h item f g k = ap (λ n. n + 1) (k s)

@@ -21,5 +21,5 @@ mod rows;
 mod stages;
 mod zips;
 
-pub use linearising::linearise;
+pub use linearising::{linearise, machines_go_as_far_as_terms};
 pub use machine::Machine;
