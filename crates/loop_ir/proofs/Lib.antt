@@ -4,3 +4,10 @@ pub mod Copies
 pub mod Ahead
 pub mod CountsToTwo
 pub mod BinaryDigits
+pub mod LoopTurns
+pub mod Marks
+pub mod GrowingTurns
+pub mod SpentTurns
+pub mod MarkedPrograms
+pub mod WorkedTurns
+pub mod Fronts

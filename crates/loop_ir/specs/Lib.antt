@@ -7,4 +7,6 @@ pub mod WellFormed
 pub mod Routines
 pub mod Counts
 pub mod Meaning
+pub mod LoopTurns
+pub mod Marks
 pub mod Layout

@@ -13,7 +13,7 @@ mod laws;
 mod program;
 mod syntax;
 
-pub use laws::runs_grow;
+pub use laws::{marks_tell_turns, runs_grow, turns_are_counted};
 pub use list_denotation::{Event, Events, Input, InputKind, InputKinds, Inputs, Words};
 pub use program::Prog;
 pub use syntax::{Stmt, Stmts, T, Verdict, W, WOp};
