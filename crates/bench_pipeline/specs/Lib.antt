@@ -1,3 +1,4 @@
 pub mod Generator
 pub mod Pipelines
 pub mod Texts
+pub mod Promises

@@ -1,3 +1,4 @@
 pub mod Phrases
 pub mod Automaton
 pub mod Runs
+pub mod Promises

@@ -1,3 +1,4 @@
 pub mod Brackets
 pub mod Undeclared
 pub mod Answers
+pub mod Promises

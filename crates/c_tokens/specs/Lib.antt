@@ -2,3 +2,4 @@ pub mod Characters
 pub mod Symbols
 pub mod Pieces
 pub mod Cutting
+pub mod Promises

@@ -1,2 +1,3 @@
 pub mod Words
 pub mod SameTokens
+pub mod Promises

@@ -1,3 +1,4 @@
 pub mod Constants
 pub mod Simple
 pub mod Laws
+pub mod Promises

@@ -2,3 +2,4 @@ pub mod Forms
 pub mod FormCopies
 pub mod FormLeaves
 pub mod Laws
+pub mod Promises

@@ -5,3 +5,4 @@ pub mod PlainWords
 pub mod Scopes
 pub mod Contract
 pub mod Laws
+pub mod Promises

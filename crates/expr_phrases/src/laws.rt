@@ -1,19 +1,19 @@
-//! Laws of the definitions. These functions do nothing: their contracts are the laws.
+//! Laws of the definitions. These functions do nothing: their contracts are the laws, which specs/Promises tells.
 
-ghost use Rattle.std.specs.Prelude.{◌≡◌, ◌≢◌, ◌≤◌, ℕ, Bool, not, List, Option, IsTrue};
-ghost use Rattle.strm_num.specs.Words.{IsWord, negation_of, remainder_of};
-ghost use Rattle.strm_num.specs.Magnitudes.{magnitude_of};
-ghost use Rattle.list_denotation.specs.declared.expr.BinOp.{BinOp};
-ghost use Rattle.list_denotation.specs.declared.input.Input.{Input};
-ghost use Rattle.list_denotation.specs.Values.{Trap, Is, unless_zero};
-ghost use Rattle.loop_ir.specs.Counts.{block_count, block_loops};
-ghost use Rattle.loop_ir.specs.Leaves.{operand_leaves, test_leaves, block_leaves};
-ghost use Rattle.loop_ir.specs.Meaning.{operand_value, test_value};
-ghost use Rattle.loop_ir.specs.Statements.{Operand, Const, Var, Test};
-ghost use Rattle.expr_constants.specs.Constants.{IsWordConstant};
 ghost use Rattle.expr_phrases.specs.Laws.{Laws};
-ghost use Rattle.expr_phrases.specs.Phrases.{Division, minus, opposite, comparison_test, by_divisor, divides_modulus, magnitude_block, multiple_test};
-ghost use Rattle.expr_phrases.specs.Results.{comparison_truth, is_equality, result_of, HasValue, Assigns};
+ghost use Rattle.strm_num.specs.Promises.{MagnitudesAreWords};
+ghost use Rattle.expr_phrases.specs.Promises.{MinusNegates, OppositesNegate};
+ghost use Rattle.expr_phrases.specs.Promises.{OppositesHaveLeavesOfTheirTest};
+ghost use Rattle.expr_phrases.specs.Promises.{ComparisonsTellTheSignedOrder};
+ghost use Rattle.expr_phrases.specs.Promises.{ComparisonsHaveLeavesOfTheirWords};
+ghost use Rattle.expr_phrases.specs.Promises.{DivisionsAssignSignedResults, ResultsOfDivisionsAreWords};
+ghost use Rattle.expr_phrases.specs.Promises.{DivisionsHaveLeavesOfTheirOperands};
+ghost use Rattle.expr_phrases.specs.Promises.{DivisionsHaveFewStatements, DivisionsHaveNoLoops};
+ghost use Rattle.expr_phrases.specs.Promises.{MagnitudesAreAssigned, MultiplesAreToldByMagnitudes};
+ghost use Rattle.expr_phrases.specs.Promises.{MultiplesAreToldByWords};
+ghost use Rattle.expr_phrases.specs.Promises.{MagnitudesHaveLeavesOfTheirOperand};
+ghost use Rattle.expr_phrases.specs.Promises.{MultiplesHaveLeavesOfTheirOperand};
+ghost use Rattle.expr_phrases.specs.Promises.{MagnitudesHaveFewStatements, MagnitudesHaveNoLoops};
 
 use strm_num::{signed_division_divides_magnitudes, signed_order_flips_sign_bits};
 
@@ -25,87 +25,38 @@ fn laws_below()
     signed_order_flips_sign_bits();
 }
 
-/// 0 minus a word has the negated value, and the opposite of a test holds exactly where the test
-/// doesn't. The constants and the names in an opposite are those of its test.
 pub fn opposites_negate()
-    ensures words { (inputs : List Input) (w : Operand) (x : ℕ) (env : List ℕ)
-        → operand_value inputs w env ≡ Is x
-        → operand_value inputs (minus w) env ≡ Is (negation_of x) }
-    ensures tests { (inputs : List Input) (t : Test) (env : List ℕ) (truth : Bool)
-        → test_value inputs t env ≡ Is truth
-        → test_value inputs (opposite t) env ≡ Is (not truth) }
-    ensures leaves { (passes : Operand → Bool) (t : Test)
-        → IsTrue (test_leaves passes t) → IsTrue (test_leaves passes (opposite t)) }
+    ensures words { MinusNegates }
+    ensures tests { OppositesNegate }
+    ensures leaves { OppositesHaveLeavesOfTheirTest }
 {}
 
-/// The test of a comparison of two words holds exactly where the comparison of their signed values
-/// does. The names in it are those of the words, and its constants are words if theirs are.
 pub fn comparisons_tell_the_signed_order()
-    ensures truth { (inputs : List Input) (o : BinOp) (a b : Operand) (x y : ℕ) (env : List ℕ)
-        → IsWord x → IsWord y
-        → operand_value inputs a env ≡ Is x → operand_value inputs b env ≡ Is y
-        → test_value inputs (comparison_test o a b) env ≡ Is (comparison_truth o x y) }
-    ensures leaves { (passes : Operand → Bool) (o : BinOp) (a b : Operand)
-        → ((c : ℕ) → IsWord c → IsTrue (passes (Const c)))
-        → IsTrue (operand_leaves passes a) → IsTrue (operand_leaves passes b)
-        → IsTrue (test_leaves passes (comparison_test o a b)) }
+    ensures truth { ComparisonsTellTheSignedOrder }
+    ensures leaves { ComparisonsHaveLeavesOfTheirWords }
 {
     laws_below();
 }
 
-/// The statements of a division put the quotient or the remainder of the signed values, which is a
-/// word, into the variable v, and change nothing else; where the divisor is 0 they return 1. They
-/// are at most 9, and none is a loop. They name v and what the operands name, and their constants are
-/// words if those of the operands are.
 pub fn divisions_assign_signed_results()
-    ensures assigns { (inputs : List Input) (d : Division) (m n : Option ℕ) (a b : Operand)
-        (x y v : ℕ) (env : List ℕ)
-        → HasValue inputs m a x env → HasValue inputs n b y env
-        → Assigns inputs (by_divisor d m n a b v) v (unless_zero Trap y (result_of d x y)) env }
-    ensures words { (d : Division) (x y : ℕ) → IsWord (result_of d x y) }
-    ensures leaves { (passes : Operand → Bool) (d : Division) (m n : Option ℕ) (a b : Operand)
-        (v : ℕ)
-        → ((c : ℕ) → IsWord c → IsTrue (passes (Const c)))
-        → IsWordConstant m → IsWordConstant n → IsTrue (passes (Var v))
-        → IsTrue (operand_leaves passes a) → IsTrue (operand_leaves passes b)
-        → IsTrue (block_leaves passes (by_divisor d m n a b v)) }
-    ensures few { (d : Division) (m n : Option ℕ) (a b : Operand) (v : ℕ)
-        → block_count (by_divisor d m n a b v) ≤ 9 }
-    ensures no_loops { (d : Division) (m n : Option ℕ) (a b : Operand) (v : ℕ)
-        → block_loops (by_divisor d m n a b v) ≡ 0 }
+    ensures assigns { DivisionsAssignSignedResults }
+    ensures words { ResultsOfDivisionsAreWords }
+    ensures leaves { DivisionsHaveLeavesOfTheirOperands }
+    ensures few { DivisionsHaveFewStatements }
+    ensures no_loops { DivisionsHaveNoLoops }
 {
     laws_below();
 }
 
-/// The remainder of a signed value by a constant is 0 where that of the magnitudes is, and where the
-/// constant's magnitude divides 2^64 also where that of the word itself is: this is what the test of
-/// a multiple tells. The statement of a magnitude puts it, which is a word, into the variable v, and
-/// changes nothing else; it counts 3 at most, with no loop. Both name what the operand names, and v, and their
-/// constants are words if those of the operand are.
 pub fn zero_remainders_need_no_sign()
-    ensures words { (x : ℕ) → IsWord x → IsWord (magnitude_of x) }
-    ensures magnitudes { (inputs : List Input) (w : Operand) (x v : ℕ) (env : List ℕ)
-        → operand_value inputs w env ≡ Is x
-        → Assigns inputs (magnitude_block w v) v (Is (magnitude_of x)) env }
-    ensures of_magnitude { (inputs : List Input) (o : BinOp) (w : Operand) (x c : ℕ) (env : List ℕ)
-        → IsTrue (is_equality o) → IsWord x → IsWord c → c ≢ 0
-        → operand_value inputs w env ≡ Is (magnitude_of x)
-        → test_value inputs (multiple_test o w (magnitude_of c)) env
-        ≡ Is (comparison_truth o (remainder_of x c) 0) }
-    ensures of_word { (inputs : List Input) (o : BinOp) (w : Operand) (x c : ℕ) (env : List ℕ)
-        → IsTrue (is_equality o) → IsWord x → IsWord c → c ≢ 0
-        → IsTrue (divides_modulus (magnitude_of c)) → operand_value inputs w env ≡ Is x
-        → test_value inputs (multiple_test o w (magnitude_of c)) env
-        ≡ Is (comparison_truth o (remainder_of x c) 0) }
-    ensures block_leaves { (passes : Operand → Bool) (w : Operand) (v : ℕ)
-        → ((c : ℕ) → IsWord c → IsTrue (passes (Const c))) → IsTrue (passes (Var v))
-        → IsTrue (operand_leaves passes w) → IsTrue (block_leaves passes (magnitude_block w v)) }
-    ensures test_leaves { (passes : Operand → Bool) (o : BinOp) (w : Operand) (c : ℕ)
-        → ((c : ℕ) → IsWord c → IsTrue (passes (Const c))) → IsWord c
-        → IsTrue (operand_leaves passes w)
-        → IsTrue (test_leaves passes (multiple_test o w (magnitude_of c))) }
-    ensures few { (w : Operand) (v : ℕ) → block_count (magnitude_block w v) ≤ 3 }
-    ensures no_loops { (w : Operand) (v : ℕ) → block_loops (magnitude_block w v) ≡ 0 }
+    ensures words { MagnitudesAreWords }
+    ensures magnitudes { MagnitudesAreAssigned }
+    ensures of_magnitude { MultiplesAreToldByMagnitudes }
+    ensures of_word { MultiplesAreToldByWords }
+    ensures block_leaves { MagnitudesHaveLeavesOfTheirOperand }
+    ensures test_leaves { MultiplesHaveLeavesOfTheirOperand }
+    ensures few { MagnitudesHaveFewStatements }
+    ensures no_loops { MagnitudesHaveNoLoops }
 {
     laws_below();
 }

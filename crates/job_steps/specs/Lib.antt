@@ -7,3 +7,4 @@ pub mod Inputs
 pub mod Works
 pub mod Jobs
 pub mod Answers
+pub mod Promises

@@ -9,7 +9,7 @@
 //!
 //! The crate depends on those that define the parts: command_words for the words, strm_io for stores,
 //! pipe_lexer, pipe_tree and kind_rules for pipeline texts, c_faults and c_grammar for C texts,
-//! value_files for files of values, status_lines for statuses, list_denotation, loop_ir and loop_emit
+//! value_files for files of values, status_lines for statuses, list_denotation, loop_ir and headline
 //! for what a program does, and count_lines and event_texts for the texts that are written. Its laws
 //! stand on theirs, and on those of pipe_reader and denotation_laws.
 //!

@@ -6,7 +6,7 @@ use Rattle.list_denotation.specs.Terms.{Pipeline}
 use Rattle.loop_ir.specs.Layout.{layout}
 use Rattle.loop_ir.specs.Statements.{Routine}
 use Rattle.loop_ir.specs.WellFormed.{IsWellFormed}
-use Rattle.loop_emit.specs.Headline.{IsEmitted}
+use Rattle.headline.specs.Headline.{IsEmitted}
 use Rattle.c_grammar.specs.Reading.{Reads}
 use Rattle.job_steps.specs.Works.{IsTextOf}
 

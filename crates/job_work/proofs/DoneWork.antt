@@ -6,7 +6,7 @@ use Rattle.list_denotation.specs.Observation.{Standing, Done, Going, Failed, See
 use Rattle.list_denotation.specs.Terms.{Pipeline}
 use Rattle.list_denotation.specs.Values.{Trap, Stuck}
 use Rattle.list_denotation.specs.Work.{work}
-use Rattle.loop_emit.specs.Headline.{IsEmitted}
+use Rattle.headline.specs.Headline.{IsEmitted}
 use Rattle.loop_ir.specs.Meaning.{meaning}
 use Rattle.loop_ir.specs.Statements.{Routine}
 use Rattle.pipe_limits.specs.declared.TheConstants.{MOST_WORK}

@@ -2,7 +2,7 @@
 
 ghost use Rattle.std.specs.Prelude.{IfOk};
 ghost use Rattle.list_denotation.specs.Pipelines.{pipeline_of};
-ghost use Rattle.loop_emit.specs.Headline.{IsEmitted};
+ghost use Rattle.headline.specs.Headline.{IsEmitted};
 ghost use Rattle.loop_ir.specs.Routines.{routine_of};
 ghost use Rattle.job_steps.specs.Works.{IsTextOf};
 

@@ -9,3 +9,4 @@ pub mod Streams
 pub mod Checking
 pub mod StandsFor
 pub mod FirstFault
+pub mod Promises

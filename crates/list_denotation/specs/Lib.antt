@@ -15,3 +15,4 @@ pub mod Scopes
 pub mod Literals
 pub mod InputNames
 pub mod Limits
+pub mod Promises

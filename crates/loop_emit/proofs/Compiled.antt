@@ -16,7 +16,7 @@ use Rattle.zip_linearise.specs.MachinePromise.{IsMachineOf}
 use Rattle.loop_emit.specs.CoreCondition.{IsCoreFor}
 use Rattle.loop_emit.specs.Emission.{machine_temps, machine_vars, turn_piece, body_block, routine_for}
 use Rattle.loop_emit.specs.EmissionRoom.{HasRoom, IsBodyOf}
-use Rattle.loop_emit.specs.Headline.{IsEmitted}
+use Rattle.headline.specs.Headline.{IsEmitted}
 use Rattle.loop_emit.specs.Laws.{Laws}
 use Rattle.loop_emit.proofs.Emitted as emitted
 use Rattle.loop_emit.proofs.MachineParts.{behind_states, behind_turn}

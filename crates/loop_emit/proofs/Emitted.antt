@@ -34,7 +34,7 @@ use Rattle.loop_emit.specs.CoreCondition.{IsCoreFor}
 use Rattle.loop_emit.specs.Emission as emission
 use Rattle.loop_emit.specs.Emission.{routine_for}
 use Rattle.loop_emit.specs.EmissionRoom.{HasRoom}
-use Rattle.loop_emit.specs.Headline.{IsEmitted}
+use Rattle.headline.specs.Headline.{IsEmitted}
 use Rattle.loop_emit.specs.Laws.{Laws}
 use Rattle.zip_linearise.specs.MachinePromise.{IsMachineOf}
 use Rattle.loop_emit.proofs.MachineConstants.{routine_constants}

@@ -14,7 +14,7 @@ ghost use Rattle.loop_emit.specs.CoreCondition.{IsCoreFor};
 ghost use Rattle.loop_emit.specs.Emission.{held_count, finish_openings, openings, machine_temps, held_vars};
 ghost use Rattle.loop_emit.specs.Emission.{turn_piece, machine_loop};
 ghost use Rattle.loop_emit.specs.EmissionRoom.{HasRoom, IsTurnFor, IsStateScope, IsBodyOf};
-ghost use Rattle.loop_emit.specs.Headline.{IsEmitted};
+ghost use Rattle.headline.specs.Headline.{IsEmitted};
 
 use crate::laws::laws_below;
 use crate::loops::put_loop;

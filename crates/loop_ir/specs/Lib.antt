@@ -10,3 +10,4 @@ pub mod Meaning
 pub mod LoopTurns
 pub mod Marks
 pub mod Layout
+pub mod Promises

@@ -1,72 +1,29 @@
-//! Laws of machines. These functions do nothing: their contracts are the laws.
+//! Laws of the definitions. These functions do nothing: their contracts are the laws, which specs/Promises tells.
 
-ghost use Rattle.std.specs.Prelude.{◌≡◌, ℕ, ◌+◌, List, length};
-ghost use Rattle.list_denotation.specs.Rows.{Rows, join_rows, zip_rows};
-ghost use Rattle.list_denotation.specs.Work.{sum_over};
-ghost use Rattle.denotation_laws.specs.FarRows.{FarRows};
-ghost use Rattle.denotation_laws.specs.RowWords.{EachRow};
-ghost use Rattle.stateful_core.specs.Turns.{Turn, turn_rows, turn_count, stage_rows};
-ghost use Rattle.machine_turns.specs.MachineRuns.{Runs};
-ghost use Rattle.machine_turns.specs.StageTurns.{join_guard, join_step};
-ghost use Rattle.machine_turns.specs.NestTurns.{NestState, Closed, nest_guard, nest_step};
-ghost use Rattle.machine_turns.specs.ZipTurns.{ZipState, LeftDue, zip_guard, zip_step};
+ghost use Rattle.machine_turns.specs.Promises.{ReachedRowsAreAsFar, MachinesReachTheirRows};
+ghost use Rattle.machine_turns.specs.Promises.{StagesMakeTheirRowsOfMachines, StagesReachTheirRows};
+ghost use Rattle.machine_turns.specs.Promises.{StagesKeepFarRows, InnerMachinesGoNoFurther};
+ghost use Rattle.machine_turns.specs.Promises.{InnerMachinesReachJoinedRows};
+ghost use Rattle.machine_turns.specs.Promises.{MachinesSideBySideGoNoFurther};
+ghost use Rattle.machine_turns.specs.Promises.{MachinesSideBySideReachZippedRows};
 
-/// Rows that a machine reaches in so many turns are as far as what it gives in these. A machine
-/// reaches its own rows in the turns that end with a row or without one, and 1.
 pub fn machines_reach_their_rows()
-    ensures far { (guard : List ℕ → ℕ) (turn : List ℕ → Turn (List ℕ)) (rows : Rows) (s : List ℕ)
-        (w : ℕ) → Runs guard turn rows s w → FarRows rows (turn_rows guard turn w s) }
-    ensures own { (guard : List ℕ → ℕ) (turn : List ℕ → Turn (List ℕ)) (n : ℕ) (s : List ℕ)
-        → Runs guard turn (turn_rows guard turn n s) s (turn_count guard turn n s + 1) }
+    ensures far { ReachedRowsAreAsFar }
+    ensures own { MachinesReachTheirRows }
 {}
 
-/// A stage over a machine: the rows of both in one are what the stage makes of those of the machine,
-/// and they are reached in as many turns. What a stage makes of rows is as far as these.
 pub fn stages_run_over_machines()
-    ensures rows { (guard : List ℕ → ℕ) (turn : List ℕ → Turn (List ℕ)) (opens : List ℕ → ℕ)
-        (takes : List ℕ → List ℕ → Turn (List ℕ)) (n : ℕ) (s t : List ℕ)
-        → turn_rows (join_guard guard opens) (join_step turn takes) n (s, t)
-        ≡ stage_rows opens takes t (turn_rows guard turn n s) }
-    ensures reaches { (guard : List ℕ → ℕ) (turn : List ℕ → Turn (List ℕ)) (opens : List ℕ → ℕ)
-        (takes : List ℕ → List ℕ → Turn (List ℕ)) (rows : Rows) (s t : List ℕ) (w : ℕ)
-        → Runs guard turn rows s w
-        → Runs (join_guard guard opens) (join_step turn takes) (stage_rows opens takes t rows)
-        (s, t) w }
-    ensures far { (opens : List ℕ → ℕ) (takes : List ℕ → List ℕ → Turn (List ℕ)) (t : List ℕ)
-        (o u : Rows) → FarRows o u
-        → FarRows (stage_rows opens takes t o) (stage_rows opens takes t u) }
+    ensures rows { StagesMakeTheirRowsOfMachines }
+    ensures reaches { StagesReachTheirRows }
+    ensures far { StagesKeepFarRows }
 {}
 
-/// An inner machine for each row of an outer one: the rows of both in one are no further than the
-/// inner lists joined, and these are reached in the turns of the outer machine and of each inner one
-/// that is opened.
 pub fn inner_machines_run_within_outer_ones()
-    ensures no_further { (guard : List ℕ → ℕ) (turn : List ℕ → Turn (List ℕ))
-        (opens : List ℕ → List ℕ → ℕ) (takes : List ℕ → List ℕ → Turn (List ℕ))
-        (start : List ℕ → List ℕ) (n : ℕ) (s : List ℕ)
-        → FarRows (turn_rows (nest_guard guard) (nest_step turn opens takes start) n (Closed s))
-        (join_rows (turn_rows guard turn n s)
-        (λ r. turn_rows (opens r) (takes r) n (start r))) }
-    ensures reaches { (guard : List ℕ → ℕ) (turn : List ℕ → Turn (List ℕ))
-        (opens : List ℕ → List ℕ → ℕ) (takes : List ℕ → List ℕ → Turn (List ℕ))
-        (start : List ℕ → List ℕ) (width : ℕ) (inner : List ℕ → Rows) (turns : List ℕ → ℕ)
-        → ((r : List ℕ) → length r ≡ width
-        → Runs (opens r) (takes r) (inner r) (start r) (turns r))
-        → (rows : Rows) (s : List ℕ) (w : ℕ) → Runs guard turn rows s w
-        → EachRow (λ r. length r ≡ width) rows
-        → Runs (nest_guard guard) (nest_step turn opens takes start) (join_rows rows inner)
-        (Closed s) (w + sum_over rows inner turns ◌+◌ 0) }
+    ensures no_further { InnerMachinesGoNoFurther }
+    ensures reaches { InnerMachinesReachJoinedRows }
 {}
 
-/// Two machines side by side: the rows of both in one are no further than those of the two, row by
-/// row, and these are reached in the turns of both.
 pub fn machines_run_side_by_side()
-    ensures no_further { (guard : List ℕ → ℕ) (turn : List ℕ → Turn (List ℕ))
-        (opens : List ℕ → ℕ) (takes : List ℕ → Turn (List ℕ)) (n : ℕ) (s t : List ℕ)
-        → FarRows (turn_rows (zip_guard guard opens) (zip_step turn takes) n (LeftDue s t))
-        (zip_rows (turn_rows guard turn n s) (turn_rows opens takes n t)) }
-    ensures reaches { (guard : List ℕ → ℕ) (turn : List ℕ → Turn (List ℕ))
-        (opens : List ℕ → ℕ) (takes : List ℕ → Turn (List ℕ)) (x y : Rows) (s t : List ℕ)
-        (a b : ℕ) → Runs guard turn x s a → Runs opens takes y t b
-        → Runs (zip_guard guard opens) (zip_step turn takes) (zip_rows x y) (LeftDue s t) (a + b) }
+    ensures no_further { MachinesSideBySideGoNoFurther }
+    ensures reaches { MachinesSideBySideReachZippedRows }
 {}

@@ -5,3 +5,4 @@ pub mod Pieces
 pub mod Prefixes
 pub mod Lexing
 pub mod Steps
+pub mod Promises

@@ -1,8 +1,7 @@
-//! Laws of the definitions. These functions do nothing: their contracts are the laws.
+//! A law of the definitions. This function does nothing: its contract is the law, which specs/Promises tells.
 
-ghost use Rattle.pipe_printer.specs.TreeTokens.{HasTreeTokens};
+ghost use Rattle.pipe_printer.specs.Promises.{SentencesHaveTreeTokens};
 
-/// The tokens of a sentence are, but for offsets, the tokens that `print_tree` writes of its tree.
 pub fn sentences_have_tree_tokens()
-    ensures { HasTreeTokens }
+    ensures { SentencesHaveTreeTokens }
 {}

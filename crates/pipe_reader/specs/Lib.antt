@@ -3,3 +3,4 @@ pub mod Machine
 pub mod Depths
 pub mod Continuations
 pub mod Nesting
+pub mod Promises

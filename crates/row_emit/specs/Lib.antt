@@ -2,3 +2,4 @@ pub mod Settings
 pub mod Placed
 pub mod TurnCopies
 pub mod Readiness
+pub mod Promises

@@ -13,3 +13,4 @@ pub mod StreamCores
 pub mod CorePromise
 pub mod Laws
 pub mod RowTests
+pub mod Promises

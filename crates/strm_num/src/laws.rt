@@ -1,29 +1,19 @@
-//! Laws of the definitions. These functions do nothing: their contracts are the laws.
+//! Laws of the definitions. These functions do nothing: their contracts are the laws, which specs/Promises tells.
 
-ghost use Rattle.std.specs.Prelude.{◌≡◌, ◌≢◌, ℕ, ◌/◌, ◌%◌, ◌^◌, nat_lt, bit_xor};
-ghost use Rattle.strm_num.specs.Words.{IsWord, quotient_of, remainder_of, is_less};
-ghost use Rattle.strm_num.specs.Magnitudes.{is_negative, magnitude_of, with_sign, xor};
+ghost use Rattle.strm_num.specs.Promises.{QuotientsAreThoseOfMagnitudes};
+ghost use Rattle.strm_num.specs.Promises.{RemaindersAreThoseOfMagnitudes, QuotientsAreWords};
+ghost use Rattle.strm_num.specs.Promises.{RemaindersAreWords, MagnitudesAreWords};
+ghost use Rattle.strm_num.specs.Promises.{MagnitudesAreZeroAtZeroAlone, SignedOrderFlipsSignBits};
 
-/// Signed division is unsigned division of magnitudes, with the sign set afterwards: a quotient is
-/// negative where one side alone is, and a remainder where the dividend is. Quotients and
-/// remainders of all numbers are words; the magnitude of a word is one, and 0 for the word 0 alone.
-///
-/// At the divisor 0, for which neither is asked for, a quotient of magnitudes is 0 and a remainder
-/// is the dividend, as of natural numbers.
 pub fn signed_division_divides_magnitudes()
-    ensures quotient { (x y : ℕ) → IsWord x → IsWord y
-        → quotient_of x y ≡ with_sign (xor (is_negative x) (is_negative y))
-        (magnitude_of x / magnitude_of y) }
-    ensures remainder { (x y : ℕ) → IsWord x → IsWord y
-        → remainder_of x y ≡ with_sign (is_negative x) (magnitude_of x % magnitude_of y) }
-    ensures quotient_word { (x y : ℕ) → IsWord (quotient_of x y) }
-    ensures remainder_word { (x y : ℕ) → IsWord (remainder_of x y) }
-    ensures magnitude_word { (x : ℕ) → IsWord x → IsWord (magnitude_of x) }
-    ensures magnitude_not_zero { (x : ℕ) → IsWord x → x ≢ 0 → magnitude_of x ≢ 0 }
+    ensures quotient { QuotientsAreThoseOfMagnitudes }
+    ensures remainder { RemaindersAreThoseOfMagnitudes }
+    ensures quotient_word { QuotientsAreWords }
+    ensures remainder_word { RemaindersAreWords }
+    ensures magnitude_word { MagnitudesAreWords }
+    ensures magnitude_not_zero { MagnitudesAreZeroAtZeroAlone }
 {}
 
-/// With the sign bits flipped, the order of the signed values is that of the words.
 pub fn signed_order_flips_sign_bits()
-    ensures { (x y : ℕ) → IsWord x → IsWord y
-        → is_less x y ≡ nat_lt (bit_xor x (2 ^ 63)) (bit_xor y (2 ^ 63)) }
+    ensures { SignedOrderFlipsSignBits }
 {}

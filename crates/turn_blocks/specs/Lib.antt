@@ -6,3 +6,4 @@ pub mod Temporaries
 pub mod TurnContract
 pub mod Consumers
 pub mod Laws
+pub mod Promises

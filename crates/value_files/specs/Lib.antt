@@ -3,3 +3,4 @@ pub mod Numbers
 pub mod Items
 pub mod Files
 pub mod Steps
+pub mod Promises

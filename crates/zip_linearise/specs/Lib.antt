@@ -6,3 +6,4 @@ pub mod LinearMachine
 pub mod MachineCopies
 pub mod MachinePromise
 pub mod Laws
+pub mod Promises

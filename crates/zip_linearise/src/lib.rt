@@ -14,6 +14,7 @@
 
 mod guards;
 mod holding;
+mod laws;
 mod linearising;
 mod machine;
 mod nests;
@@ -21,5 +22,6 @@ mod rows;
 mod stages;
 mod zips;
 
-pub use linearising::{linearise, machines_go_as_far_as_terms};
+pub use laws::machines_go_as_far_as_terms;
+pub use linearising::linearise;
 pub use machine::Machine;

@@ -1,73 +1,27 @@
 //! The machine of a core term.
 
-ghost use Rattle.std.specs.Prelude.{◌≡◌, ℕ, ◌+◌, ◌<◌, ◌^◌, List, length, IfOk, IsTrue};
-ghost use Rattle.list_denotation.specs.declared.input.Input.{Input};
+ghost use Rattle.std.specs.Prelude.{◌≡◌, ◌+◌, ◌<◌, ◌^◌, IfOk, IsTrue};
 ghost use Rattle.list_denotation.specs.Copies.{term_of, terms_of};
 ghost use Rattle.stateful_core.specs.CoreCopies.{actions_of, core_term_of};
-ghost use Rattle.stateful_core.specs.CoreRows.{core_rows};
-ghost use Rattle.stateful_core.specs.CoreShapes.{core_scope, core_width};
-ghost use Rattle.stateful_core.specs.CoreTerms.{CoreTerm};
-ghost use Rattle.stateful_core.specs.CoreWork.{core_work};
-ghost use Rattle.denotation_laws.specs.FarRows.{FarRows};
-ghost use Rattle.denotation_laws.specs.RowWords.{EachRow};
+ghost use Rattle.stateful_core.specs.CoreShapes.{core_scope};
 ghost use Rattle.stateful_core.specs.MostWords.{added_words};
 ghost use Rattle.stateful_core.specs.WellFormed.{is_sound_core, is_well_formed};
 ghost use Rattle.act_moves.specs.WordRoom.{StayBelow};
-ghost use Rattle.zip_linearise.specs.Laws.{Laws};
 ghost use Rattle.zip_linearise.specs.MachineCopies.{machine_of};
 ghost use Rattle.zip_linearise.specs.MachinePromise.{IsMachineOf};
 ghost use Rattle.zip_linearise.specs.LinearMachine.{linear_machine};
 ghost use Rattle.zip_linearise.specs.Machines.{machine_core, machine_from};
 
+use crate::laws::laws_below;
 use crate::machine::{Machine, boxed_machine};
 use crate::nests::nest_machine;
 use crate::stages::stage_machine;
 use crate::zips::zip_machine;
 use act_moves::{Halt, Room, push_moved};
-use denotation_laws::{
-    expressions_read_bound_words_alone, far_rows_is_an_order, stages_keep_far_rows,
-    undivided_expressions_have_values,
-};
 use list_denotation::{Expr, Exprs};
-use machine_turns::{
-    inner_machines_run_within_outer_ones, machines_reach_their_rows, machines_run_side_by_side,
-    stages_run_over_machines,
-};
 use stateful_core::{Acts, Core, copies, copy};
 use std::alloc::Global;
 use strm_num::{List, NoMemory};
-
-// What denotation_laws and machine_turns promise of their definitions.
-fn laws_below()
-    ensures { Laws }
-{
-    far_rows_is_an_order();
-    stages_keep_far_rows();
-    machines_reach_their_rows();
-    stages_run_over_machines();
-    inner_machines_run_within_outer_ones();
-    machines_run_side_by_side();
-    expressions_read_bound_words_alone();
-    undivided_expressions_have_values();
-}
-
-/// The machine of a sound term, as a definition: at every bound n, what it gives in n steps is as far
-/// as the rows of the term, and these are as far as what it gives in as many steps as the term's work.
-/// The rows of any term have its width.
-pub fn machines_go_as_far_as_terms()
-    ensures no_further { (c : CoreTerm) (env : List ℕ) (inputs : List Input) (n : ℕ)
-        → IsTrue (is_sound_core c) → length env ≡ core_scope c
-        → FarRows (core_rows (machine_core (linear_machine c)) env inputs n)
-        (core_rows c env inputs n) }
-    ensures as_far { (c : CoreTerm) (env : List ℕ) (inputs : List Input) (n : ℕ)
-        → IsTrue (is_sound_core c) → length env ≡ core_scope c
-        → FarRows (core_rows c env inputs n)
-        (core_rows (machine_core (linear_machine c)) env inputs (core_work c env inputs n)) }
-    ensures widths { (c : CoreTerm) (env : List ℕ) (inputs : List Input) (n : ℕ)
-        → EachRow (λ r. length r ≡ core_width c) (core_rows c env inputs n) }
-{
-    laws_below();
-}
 
 /// The machine of a `Lin` with these parts, which are copied.
 fn lin_machine(

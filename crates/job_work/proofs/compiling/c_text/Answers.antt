@@ -1,6 +1,6 @@
 use Rattle.std.proofs.Common.{rules}
 use Rattle.list_denotation.specs.Pipelines.{pipeline_of}
-use Rattle.loop_emit.specs.Headline.{IsEmitted}
+use Rattle.headline.specs.Headline.{IsEmitted}
 use Rattle.loop_ir.specs.Routines.{routine_of}
 use Rattle.loop_ir.specs.WellFormed.{IsWellFormed}
 use Rattle.job_work.proofs.CTexts.{text_of}

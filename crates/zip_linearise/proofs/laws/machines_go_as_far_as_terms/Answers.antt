@@ -1,6 +1,6 @@
 use Rattle.zip_linearise.proofs.MachineRows.{machine_no_further, machine_as_far}
 use Rattle.zip_linearise.proofs.RowWidths.{wide_rows}
-use Rattle.zip_linearise.proofs.linearising.machines_go_as_far_as_terms.Goals as goal
+use Rattle.zip_linearise.proofs.laws.machines_go_as_far_as_terms.Goals as goal
 
 pub returns : goal.returns
 returns c = record {
