@@ -1,7 +1,7 @@
 -- What is promised of the definitions. Each statement has one name, which its law and those who stand on it cite.
 use Rattle.pipe_limits.specs.declared.TheConstants.{MOST_COMPONENTS, MOST_ITEMS}
 use Rattle.std.specs.Prelude.{◌≡◌, ◌≢◌, ◌≤◌, ◌<◌, ◌+◌, ◌^◌, ◌⊎◌, ◌↔◌, ℕ, suc, false, nat_lt}
-use Rattle.std.specs.Prelude.{List, [], ◌∷◌, ◌++◌, length, slice_get, All, IsTrue}
+use Rattle.std.specs.Prelude.{List, [], ◌∷◌, ◌++◌, length, slice_get, Some, All, IsTrue}
 use Rattle.strm_num.specs.Words.{IsWord, signed, sum_of, difference_of, is_less}
 use Rattle.list_denotation.specs.declared.input.Input.{Input}
 use Rattle.list_denotation.specs.declared.input.InputKind.{InputKind}
