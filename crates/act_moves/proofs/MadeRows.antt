@@ -5,7 +5,7 @@ use Rattle.std.proofs.lemmas.List.{drop_all}
 use Rattle.strm_num.proofs.Lists.{drop_at}
 use Rattle.list_denotation.specs.declared.expr.Expr.{Expr}
 use Rattle.list_denotation.specs.Copies.{term_of, terms_of}
-use Rattle.stateful_core.proofs.CopiedRows.{terms_push}
+use Rattle.list_denotation.proofs.MadeRows.{terms_push}
 use Rattle.act_moves.specs.Renumbering.{renumber, renumber_row}
 use Rattle.act_moves.specs.WordRoom.{ReadsBelow, RowReadsBelow}
 

@@ -8,8 +8,8 @@ ghost use Rattle.stateful_core.specs.CoreTerms.{Nil, Cons, join};
 ghost use Rattle.stateful_core.specs.StreamCores.{set_state};
 ghost use Rattle.act_moves.specs.Flags.{skip_with, close_unless};
 
-use list_denotation::Expr;
-use stateful_core::{Act, Acts, boxed, push_set, single};
+use list_denotation::{Expr, boxed, single};
+use stateful_core::{Act, Acts, push_set};
 use std::alloc::Global;
 use strm_num::{List, NoMemory, Word};
 

@@ -9,8 +9,8 @@ ghost use Rattle.act_moves.specs.Renumbering.{renumber, renumber_row, move_actio
 ghost use Rattle.act_moves.specs.WordRoom.{number_in, most_in, ReadsBelow, RowReadsBelow, StaysBelow, StayBelow};
 
 use crate::flags::push_close;
-use list_denotation::{Expr, Exprs};
-use stateful_core::{Act, Acts, boxed};
+use list_denotation::{Expr, Exprs, boxed};
+use stateful_core::{Act, Acts};
 use std::alloc::Global;
 use strm_num::{List, NoMemory};
 

@@ -13,4 +13,4 @@ mod simple;
 
 pub use constants::constant;
 pub use laws::constants_are_values;
-pub use simple::{is_division, is_leaf, is_simple};
+pub use simple::{is_leaf, is_simple};

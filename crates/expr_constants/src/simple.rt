@@ -2,18 +2,10 @@
 
 ghost use Rattle.std.specs.Prelude.{◌≡◌};
 ghost use Rattle.list_denotation.specs.Copies.{term_of};
-ghost use Rattle.list_denotation.specs.Typing.{is_division};
 ghost use Rattle.expr_constants.specs.Simple.{is_leaf, is_simple};
 
 use crate::constants::constant;
-use list_denotation::{BinOp, Expr};
-
-/// Whether an operation divides: `/` and `%` do.
-pub fn is_division(op: BinOp) -> bool
-    ensures { result ≡ is_division op }
-{
-    matches!(op, BinOp::Div | BinOp::Rem)
-}
+use list_denotation::Expr;
 
 /// Whether it is a number, a truth or a name.
 pub fn is_leaf(e: &Expr) -> bool

@@ -12,12 +12,12 @@ ghost use Rattle.expr_phrases.specs.PhraseCopies.{division_of, Appends};
 ghost use Rattle.expr_forms.specs.FormCopies.{form_of, without_statements, as_operand, kept_form, kept_rest};
 
 use crate::forms::{Form, operand, put};
-use expr_constants::{constant, is_division, is_simple};
+use expr_constants::{constant, is_simple};
 use expr_phrases::{
     Division, Side, boxed_word, by_divisor, comparison_test, divides_modulus, magnitude_block,
     minus, multiple_test, set_truth,
 };
-use list_denotation::{BinOp, Expr};
+use list_denotation::{BinOp, Expr, is_division};
 use loop_ir::{Stmt, Stmts, W, WOp};
 use std::alloc::Global;
 use strm_num::{NoMemory, Word, magnitude};

@@ -7,8 +7,8 @@ ghost use Rattle.expr_constants.specs.Constants.{constant_of};
 ghost use Rattle.expr_lower.specs.Costs.{is_arithmetic, has_plain_parts, is_plain, is_direct, connected_temps, operation_temps, parts_temps, temps_of};
 
 use crate::multiples::{dividend, multiple_divisor};
-use expr_constants::{constant, is_division, is_leaf, is_simple};
-use list_denotation::{BinOp, Expr};
+use expr_constants::{constant, is_leaf, is_simple};
+use list_denotation::{BinOp, Expr, is_division};
 
 /// The temporaries that the statements of an expression use, at most one for each level of its depth:
 /// one for each right operand that is kept while others are looked at. A constant needs none.

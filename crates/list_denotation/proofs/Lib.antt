@@ -3,3 +3,5 @@ pub mod TypedKinds
 pub mod ZipOfNested
 pub mod WorkedRows
 pub mod TypedLeaves
+pub mod MadeRows
+pub mod UndividedRows

@@ -1,4 +1,5 @@
 pub mod Terms
+pub mod TermRows
 pub mod Copies
 pub mod Pipelines
 pub mod Inputs

@@ -19,10 +19,6 @@ use Rattle.expr_phrases.specs.PhraseCopies.{Appends}
 use Rattle.turn_blocks.specs.Temporaries.{row_temps}
 use Rattle.loop_emit.specs.Emission.{kept_condition, loop_guard, openings}
 
-pub terms_length : (es : List Expr) → length (terms_of es) ≡ length es
-terms_length [] = refl
-terms_length (e ∷ es) = ap suc (terms_length es)
-
 -- no statement was appended
 pub appends_none : (old : List Stmt) → Appends old old Nil
 appends_none old = sym (join-nil (block_of old))

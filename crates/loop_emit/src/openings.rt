@@ -17,7 +17,7 @@ use strm_num::NoMemory;
 /// Appends the statements that put the value of each of these expressions into a variable, from the
 /// variable `first` on. They read no bound word: the scope `slots` has none, and its temporaries
 /// are the first variables. The one error is `NoMemory`.
-#[tactic(auto, using(crate::proofs::Appends::terms_length, crate::proofs::Appends::opens_end))]
+#[tactic(auto, using(list_denotation::proofs::MadeRows::terms_length, crate::proofs::Appends::opens_end))]
 pub fn put_openings(
     alloc: Global,
     es: &Exprs,

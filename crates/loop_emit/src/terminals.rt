@@ -19,7 +19,7 @@ use turn_emit::Turn;
 use word_uses::{Place, row_temps};
 
 /// The number of words in a row of expressions.
-#[tactic(auto, using(crate::proofs::Appends::terms_length))]
+#[tactic(auto, using(list_denotation::proofs::MadeRows::terms_length))]
 pub fn width(row: &[Expr]) -> u32
     requires { length (terms_of row.now) < 2 ^ 32 }
     ensures { result ≡ length (terms_of row.now) }

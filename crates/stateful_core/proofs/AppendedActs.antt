@@ -1,18 +1,20 @@
 -- Acts that the code appends one by one.
-use Rattle.std.proofs.Common.{rules, ◌≡◌, ℕ, suc, ◌+◌, ◌≤◌, List, [], ◌∷◌, ◌++◌, length, drop, Some, true, false, refl, sym, ap, ◌∙◌, arith}
+use Rattle.std.proofs.Common.{rules, ◌≡◌, ℕ, ◌+◌, ◌≤◌, List, [], ◌∷◌, ◌++◌, length, drop, Some, true, false, refl, sym, ap, ◌∙◌, arith}
 use Rattle.std.specs.Prelude.{slice_get}
 use Rattle.std.proofs.lemmas.List.{drop_all}
 use Rattle.strm_num.proofs.Lists.{drop_at}
 use Rattle.list_denotation.specs.declared.expr.Expr.{Expr}
 use Rattle.list_denotation.specs.declared.expr.Expr.TheVariants as expr
+use Rattle.list_denotation.proofs.MadeRows.{terms_length}
 use Rattle.list_denotation.specs.Copies.{term_of, terms_of}
+use Rattle.list_denotation.specs.TermRows.{variables}
 use Rattle.list_denotation.specs.Terms.{Term, Var}
 use Rattle.list_denotation.specs.Typing.{all_undivided, is_undivided}
 use Rattle.stateful_core.specs.declared.core_term.Act.{Act, the_lemmas}
 use Rattle.stateful_core.specs.declared.core_term.Act.TheVariants as act
 use Rattle.stateful_core.specs.CoreTerms.{Action, Let, Update, KeepIf, When, Actions, Nil, Cons, join}
 use Rattle.stateful_core.specs.CoreCopies.{action_of, actions_of}
-use Rattle.stateful_core.specs.StreamCores.{variables, let_all, set_state, next_state, test_acts, one_less, drop_acts}
+use Rattle.stateful_core.specs.StreamCores.{let_all, set_state, next_state, test_acts, one_less, drop_acts}
 
 join_join : (a b c : Actions) → join (join a b) c ≡ join a (join b c)
 join_join Nil b c = refl
@@ -51,10 +53,6 @@ pub set_push : (acts : List Act) (es : List Expr) → actions_of (acts ++ act.Up
 set_push acts es = act_push acts (act.Update 0 es) ∙ ap (λ a. join (actions_of acts) (Cons a Nil)) (update_copy 0 es)
 
 pub ruleset set_steps = (set_push)
-
-pub terms_length : (es : List Expr) → length (terms_of es) ≡ length es
-terms_length [] = refl
-terms_length (e ∷ es) = ap suc (terms_length es)
 
 pub lets_join : (es : List Term) (more : Actions) → join (let_all es Nil) more ≡ let_all es more
 lets_join [] more = refl

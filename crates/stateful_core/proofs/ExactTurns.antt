@@ -3,6 +3,7 @@ use Rattle.std.proofs.Common.{◌≡◌, ℕ, zero, suc, ◌+◌, List, [], ◌�
 use Rattle.std.specs.Prelude.{IsTrue, slice_get, if◌then◌else◌}
 use Rattle.strm_num.proofs.Truths.{both_true}
 use Rattle.list_denotation.specs.declared.input.Input.{Input}
+use Rattle.list_denotation.specs.TermRows.{variables}
 use Rattle.list_denotation.specs.Terms.{Term}
 use Rattle.list_denotation.specs.Inputs.{items_in}
 use Rattle.list_denotation.specs.Rows.{Rows, Ends, End, Cut}
@@ -15,7 +16,7 @@ use Rattle.stateful_core.specs.Actions.{ActResult, Continue, Skip, Halt, Break, 
 use Rattle.stateful_core.specs.Turns.{Skips, after_turn, turn_rows, count_turn, turn_count}
 use Rattle.stateful_core.specs.CoreRows.{turn_end, core_turn, guard_value}
 use Rattle.stateful_core.specs.CoreShapes.{is_exact_action, are_exact_actions}
-use Rattle.stateful_core.specs.StreamCores.{variables, let_all, set_state, next_state}
+use Rattle.stateful_core.specs.StreamCores.{let_all, set_state, next_state}
 
 -- the turn isn't over without a row
 abbrev KeepsRow : ActResult → Type 0

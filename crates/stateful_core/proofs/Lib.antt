@@ -12,5 +12,4 @@ pub mod StreamRows
 pub mod SoundCores
 pub mod WordCounts
 pub mod CoreKept
-pub mod CopiedRows
 pub mod AppendedActs

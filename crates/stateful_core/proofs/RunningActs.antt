@@ -3,6 +3,7 @@ use Rattle.std.proofs.Common.{◌≡◌, ℕ, List, [], ◌∷◌, ◌++◌, len
 use Rattle.std.specs.Prelude.{IsTrue, if◌then◌else◌}
 use Rattle.strm_num.proofs.Truths.{both_true}
 use Rattle.list_denotation.specs.declared.input.Input.{Input}
+use Rattle.list_denotation.specs.TermRows.{variables}
 use Rattle.list_denotation.specs.Terms.{Term}
 use Rattle.list_denotation.specs.Rows.{Rows, Row, unless_broken}
 use Rattle.list_denotation.specs.Scopes.{is_bound, all_bound}
@@ -13,7 +14,7 @@ use Rattle.stateful_core.specs.WordValues.{word_values}
 use Rattle.stateful_core.specs.Actions.{ActResult, Continue, Break, then_run, overwrite, let_word, run_acts}
 use Rattle.stateful_core.specs.Turns.{after_turn}
 use Rattle.stateful_core.specs.CoreRows.{turn_end}
-use Rattle.stateful_core.specs.StreamCores.{variables, let_all, set_state, next_state}
+use Rattle.stateful_core.specs.StreamCores.{let_all, set_state, next_state}
 use Rattle.stateful_core.specs.Laws.{Laws}
 use Rattle.stateful_core.proofs.UndividedValues.{undivided_row}
 use Rattle.stateful_core.proofs.VariableRows.{length_word_values, variables_at}

@@ -6,6 +6,7 @@ use Rattle.strm_num.proofs.Truths.{both_true, true_both}
 use Rattle.list_denotation.specs.InputNames.{InputNames}
 use Rattle.list_denotation.specs.Leaves.{all_leaves}
 use Rattle.list_denotation.specs.Scopes.{is_bound, all_bound}
+use Rattle.list_denotation.specs.TermRows.{variables}
 use Rattle.list_denotation.specs.Terms as stream
 use Rattle.list_denotation.specs.Terms.{Term, Lit, Truth, Var, Len, Pipe}
 use Rattle.list_denotation.specs.Typing.{is_undivided, all_undivided}
@@ -14,7 +15,7 @@ use Rattle.denotation_laws.specs.Widths as rows
 use Rattle.stateful_core.specs.CoreTerms.{Action, Let, KeepIf, StopUnless, Actions, Nil, Cons}
 use Rattle.stateful_core.specs.CoreShapes.{actions_locals, core_scope, core_width}
 use Rattle.stateful_core.specs.CoreLeaves.{row_leaves, action_leaves, actions_leaves, parts_leaves, core_leaves}
-use Rattle.stateful_core.specs.StreamCores.{variables, let_all, set_state, next_state, test_acts, always, one_less, rows_asked, drop_acts, stream_width, core_at}
+use Rattle.stateful_core.specs.StreamCores.{let_all, set_state, next_state, test_acts, always, one_less, rows_asked, drop_acts, stream_width, core_at}
 use Rattle.stateful_core.specs.Laws.{Laws}
 use Rattle.stateful_core.specs.WellFormed.{is_sure, all_sure, is_sound_action, are_sound_actions, are_sound_parts, is_sound_core}
 use Rattle.stateful_core.proofs.CoreWidths.{scope_at, width_at}

@@ -10,6 +10,7 @@ use Rattle.list_denotation.specs.declared.input.Input.{Input}
 use Rattle.list_denotation.specs.declared.expr.BinOp.TheVariants.{Ne}
 use Rattle.list_denotation.specs.Denotation.{words_between}
 use Rattle.list_denotation.specs.Inputs.{items_in}
+use Rattle.list_denotation.specs.TermRows.{variables}
 use Rattle.list_denotation.specs.Terms.{Term, Var, Len, Bin}
 use Rattle.list_denotation.specs.Rows.{Rows, Ends, Row, End, Cut, unless_broken, firsts, single_rows, unfold_rows}
 use Rattle.list_denotation.specs.Scopes.{is_bound, all_bound}
@@ -20,7 +21,7 @@ use Rattle.stateful_core.specs.WordValues.{word_values}
 use Rattle.stateful_core.specs.Actions.{run_acts}
 use Rattle.stateful_core.specs.Turns.{Turn, Gives, after_turn, turn_rows}
 use Rattle.stateful_core.specs.CoreRows.{turn_end, core_turn, guard_value}
-use Rattle.stateful_core.specs.StreamCores.{variables, let_all, set_state, next_state, one_more}
+use Rattle.stateful_core.specs.StreamCores.{let_all, set_state, next_state, one_more}
 use Rattle.stateful_core.specs.Laws.{Laws}
 use Rattle.stateful_core.proofs.RunningActs.{with_row, run_lets, state_turn}
 use Rattle.stateful_core.proofs.UndividedValues.{undivided_value}

@@ -3,6 +3,7 @@ use Rattle.std.proofs.Common.{◌≡◌, ℕ, zero, suc, ◌+◌, ◌^◌, ◌<�
 use Rattle.std.specs.Prelude.{IsTrue, slice_index, if◌then◌else◌}
 use Rattle.strm_num.specs.Words.{difference_of}
 use Rattle.list_denotation.specs.declared.input.Input.{Input}
+use Rattle.list_denotation.specs.TermRows.{variables}
 use Rattle.list_denotation.specs.Terms.{Term, Var}
 use Rattle.list_denotation.specs.Rows.{Rows, Ends, Row, End, unless_broken, map_rows, filter_rows, take_while_rows, take_rows, drop_rows, scan_rows}
 use Rattle.list_denotation.specs.Scopes.{all_bound}
@@ -14,7 +15,7 @@ use Rattle.stateful_core.specs.WordValues.{or_zero, word_value, word_values}
 use Rattle.stateful_core.specs.Actions.{ActResult, Continue, Skip, Halt, then_run, let_word, run_act, run_acts}
 use Rattle.stateful_core.specs.Turns.{after_turn, stage_rows}
 use Rattle.stateful_core.specs.CoreRows.{turn_end, core_turn, guard_value}
-use Rattle.stateful_core.specs.StreamCores.{variables, let_all, set_state, next_state, test_acts, always, one_less, drop_acts}
+use Rattle.stateful_core.specs.StreamCores.{let_all, set_state, next_state, test_acts, always, one_less, drop_acts}
 use Rattle.stateful_core.specs.Laws.{Laws}
 use Rattle.stateful_core.proofs.RunningActs.{with_row, run_lets, state_turn}
 use Rattle.stateful_core.proofs.UndividedValues.{HasValue, undivided_value}

@@ -3,9 +3,9 @@ use Rattle.std.proofs.Common.{◌≡◌, ℕ, zero, suc, List, [], ◌∷◌, �
 use Rattle.std.proofs.lemmas.List.{get_or_at}
 use Rattle.std.specs.Prelude.{slice_index}
 use Rattle.list_denotation.specs.declared.input.Input.{Input}
+use Rattle.list_denotation.specs.TermRows.{variables}
 use Rattle.list_denotation.specs.Terms.{Term}
 use Rattle.stateful_core.specs.WordValues.{word_values}
-use Rattle.stateful_core.specs.StreamCores.{variables}
 
 -- the word right behind others
 pub word_behind : (env s : List ℕ) (x k : ℕ) → length env ≡ k → slice_index (env ++ (x ∷ s)) k ≡ x

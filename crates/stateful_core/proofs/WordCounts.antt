@@ -6,6 +6,7 @@ use Rattle.std.proofs.lemmas.Bool.{le-ltb}
 use Rattle.strm_num.proofs.Truths.{true_both}
 use Rattle.list_denotation.specs.Counts.{stream_ops, term_depth, row_depth, stream_depth}
 use Rattle.list_denotation.specs.InputNames.{InputNames}
+use Rattle.list_denotation.specs.TermRows.{variables}
 use Rattle.list_denotation.specs.Terms as stream
 use Rattle.list_denotation.specs.Terms.{Term, Lit, Truth, Var, Param, Len, Neg, Not, Bin, And, Or, If, Pipe}
 use Rattle.list_denotation.specs.Typing.{is_undivided, all_undivided}
@@ -13,7 +14,7 @@ use Rattle.list_denotation.specs.Leaves.{all_leaves}
 use Rattle.denotation_laws.specs.StreamScopes.{StreamReadsScope}
 use Rattle.stateful_core.specs.CoreTerms.{Action, Let, KeepIf, StopUnless, Actions, Nil, Cons}
 use Rattle.stateful_core.specs.MostWords.{kept_aside, most_temps, row_temps, action_temps, actions_temps, core_temps, is_other_leaf, is_written_straight, action_words, actions_words, added_words}
-use Rattle.stateful_core.specs.StreamCores.{variables, let_all, set_state, next_state, test_acts, one_more, one_less, stream_width, core_at}
+use Rattle.stateful_core.specs.StreamCores.{let_all, set_state, next_state, test_acts, one_more, one_less, stream_width, core_at}
 use Rattle.stateful_core.proofs.CoreWidths.{width_at}
 use Rattle.stateful_core.proofs.StreamScopes.{narrow, over_rows}
 use Rattle.stateful_core.proofs.VariableRows.{length_variables}

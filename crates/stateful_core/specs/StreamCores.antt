@@ -1,17 +1,13 @@
 -- The core term of a stream, in a scope of so many bound words.
-use Rattle.std.specs.Prelude.{ℕ, zero, suc, ◌+◌, Bool, true, false, ◌||◌, List, [], ◌∷◌, length, if◌then◌else◌}
+use Rattle.std.specs.Prelude.{ℕ, ◌+◌, Bool, true, false, ◌||◌, List, [], ◌∷◌, length, if◌then◌else◌}
 use Rattle.list_denotation.specs.declared.expr.BinOp.TheVariants.{Add, Sub, Ne, Lt}
 use Rattle.list_denotation.specs.Terms as stream
 use Rattle.list_denotation.specs.Terms.{Term, Lit, Truth, Var, Len, Bin, If, Pipe}
+use Rattle.list_denotation.specs.TermRows.{variables}
 use Rattle.list_denotation.specs.Typing.{all_undivided, is_undivided}
 use Rattle.stateful_core.specs.CoreTerms.{Action, Let, Read, KeepIf, StopUnless, Update, When, Actions, Nil, Cons, CoreTerm, Lin, Tr, Nest, Zip}
 
 -- ---- pieces
-
--- so many bound words from one on
-abbrev pub variables : ℕ → ℕ → List Term
-variables k zero = []
-variables k (suc n) = Var k ∷ variables (suc k) n
 
 -- a local word for each expression of a row, before other acts
 abbrev pub let_all : List Term → Actions → Actions

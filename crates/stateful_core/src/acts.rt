@@ -9,8 +9,9 @@ ghost use Rattle.stateful_core.specs.RowTests.{test_action};
 ghost use Rattle.stateful_core.specs.StreamCores.{let_all, set_state, next_state, test_acts};
 
 use crate::core_term::{Act, Acts};
-use crate::expressions::{all_undivided, boxed, copies, copy, is_undivided, variables};
-use list_denotation::{BinOp, Expr, Exprs};
+use list_denotation::{
+    BinOp, Expr, Exprs, all_undivided, boxed, copies, copy, is_undivided, single, variables,
+};
 use std::alloc::Global;
 use strm_num::{List, NoMemory};
 
@@ -19,15 +20,6 @@ use strm_num::{List, NoMemory};
 pub enum RowTest {
     Leave,
     Stop,
-}
-
-/// A row of one expression. The one error is `NoMemory`.
-pub fn single(alloc: Global, e: Box<Expr>) -> Result<Exprs, NoMemory>
-    ensures { IfOk result (λ made. terms_of made ≡ term_of e.value ∷ []) }
-{
-    let mut made = List::new(alloc);
-    made.push(Box::into_inner(e))?;
-    Ok(made)
 }
 
 /// Appends a local word for each expression of a row. The one error is `NoMemory`.

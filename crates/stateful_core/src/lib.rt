@@ -10,13 +10,11 @@
 
 mod acts;
 mod core_term;
-mod expressions;
 mod laws;
 mod program_core;
 mod stream_core;
 
-pub use acts::{push_lets, push_set, single};
+pub use acts::{push_lets, push_set};
 pub use core_term::{Act, Acts, Core};
-pub use expressions::{boxed, copies, copy, is_undivided, variables};
 pub use laws::exact_acts_skip_no_turn;
 pub use program_core::core_of;

@@ -6,22 +6,22 @@ ghost use Rattle.list_denotation.specs.declared.expr.BinOp.TheVariants.{Ne};
 ghost use Rattle.list_denotation.specs.Copies.{term_of, terms_of, pipe_of};
 ghost use Rattle.list_denotation.specs.Counts.{stream_ops};
 ghost use Rattle.list_denotation.specs.InputNames.{InputNames};
+ghost use Rattle.list_denotation.specs.TermRows.{variables};
 ghost use Rattle.list_denotation.specs.Terms.{Bin, Var};
 ghost use Rattle.denotation_laws.specs.StreamScopes.{StreamReadsScope};
 ghost use Rattle.stateful_core.specs.CoreTerms.{Cons, Lin, Tr, Nest, Zip};
 ghost use Rattle.stateful_core.specs.CoreCopies.{action_of, actions_of, core_term_of};
 ghost use Rattle.stateful_core.specs.RowTests.{test_action};
-ghost use Rattle.stateful_core.specs.StreamCores.{variables, set_state, one_more};
+ghost use Rattle.stateful_core.specs.StreamCores.{set_state, one_more};
 ghost use Rattle.stateful_core.specs.StreamCores.{rows_asked, drop_acts, array_core};
 ghost use Rattle.stateful_core.specs.StreamCores.{range_start, range_core};
 ghost use Rattle.stateful_core.specs.StreamCores.{unfold_core, map_core, test_core, take_core};
 ghost use Rattle.stateful_core.specs.StreamCores.{drop_core, scan_core, core_at};
 ghost use Rattle.stateful_core.specs.StreamCores.{stream_width};
 
-use crate::acts::{RowTest, push_count, push_lets, push_state, row_test, single};
+use crate::acts::{RowTest, push_count, push_lets, push_state, row_test};
 use crate::core_term::{Act, Acts, Core};
-use crate::expressions::{boxed, copies, copy, variables};
-use list_denotation::{BinOp, Expr, Exprs, Stream};
+use list_denotation::{BinOp, Expr, Exprs, Stream, boxed, copies, copy, single, variables, width};
 use std::alloc::Global;
 use strm_num::{List, NoMemory};
 
@@ -128,15 +128,6 @@ fn range_core(alloc: Global, scope: u32, low: &Expr, high: &Expr) -> Result<Box<
     let start = range_start(alloc, low, high)?;
     let end = copy(alloc, high)?;
     counting_source(alloc, scope, start, end, Act::Let(Expr::Var(scope)))
-}
-
-/// The words of a row.
-#[tactic(auto, using(crate::proofs::AppendedActs::terms_length))]
-fn width(es: &Exprs) -> u32
-    requires { length (terms_of es.now) < 2 ^ 32 }
-    ensures { result ≡ length (terms_of es.now) }
-{
-    es.len() as u32
 }
 
 #[tactic(auto, using(crate::proofs::AppendedActs::row_steps))]
@@ -311,7 +302,6 @@ fn scan_core(
 }
 
 /// The words of a stream's rows.
-#[tactic(auto, using(crate::proofs::AppendedActs::terms_length))]
 fn stream_width(s: &Stream) -> u32
     requires { stream_width (pipe_of s.now) < 2 ^ 32 }
     ensures { result ≡ stream_width (pipe_of s.now) }

@@ -1,3 +1,2 @@
-pub mod Rows
 pub mod ActCopies
 pub mod WordUses

@@ -12,8 +12,8 @@ ghost use Rattle.word_uses.specs.LetUses.{let_use_of};
 
 use crate::reads::are_unread;
 use crate::waiting::{Place, is_steady};
-use list_denotation::Expr;
-use stateful_core::{Act, is_undivided};
+use list_denotation::{Expr, is_undivided};
+use stateful_core::Act;
 
 /// What a new local word comes to: it is tested at once and not read again; it is not read at all;
 /// it is the bound word of that number; or it has a variable of its own.

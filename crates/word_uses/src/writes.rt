@@ -10,7 +10,7 @@ use list_denotation::Expr;
 use stateful_core::Act;
 
 /// The number of expressions in a row.
-#[tactic(auto, using(crate::proofs::Rows::terms_length))]
+#[tactic(auto, using(list_denotation::proofs::MadeRows::terms_length))]
 pub fn width(row: &[Expr]) -> u64
     ensures { result ≡ length (terms_of row.now) }
 {

@@ -3,11 +3,11 @@ use Rattle.std.proofs.Common.{ℕ, zero, suc, ◌+◌, List, [], ◌∷◌, ◌+
 use Rattle.std.specs.Prelude.{IsTrue, if◌then◌else◌}
 use Rattle.strm_num.proofs.Truths.{both_true, true_both}
 use Rattle.list_denotation.specs.Leaves.{all_leaves}
+use Rattle.list_denotation.specs.TermRows.{variables}
 use Rattle.list_denotation.specs.Terms.{Term, Lit, Truth, Var, Not, And, Or}
 use Rattle.stateful_core.specs.CoreTerms.{StopUnless, Update, When, Actions, Nil, Cons, join, CoreTerm, Lin, Tr, Nest, Zip}
 use Rattle.stateful_core.specs.CoreLeaves.{row_leaves, action_leaves, actions_leaves, parts_leaves, core_leaves}
 use Rattle.stateful_core.specs.CoreShapes.{actions_locals}
-use Rattle.stateful_core.specs.StreamCores.{variables}
 use Rattle.act_moves.specs.Flags.{skip_with, close_unless}
 use Rattle.act_moves.specs.Renumbering.{renumber, renumber_row, move_actions}
 use Rattle.act_moves.proofs.RenumberedLeaves.{all_append, leaves_renumbered, row_renumbered, leaves_join, leaves_lets, leaves_moved}

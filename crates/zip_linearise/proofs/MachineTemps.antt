@@ -1,11 +1,11 @@
 -- A machine has at most the temporaries that are counted for its term.
 use Rattle.std.proofs.Common.{◌≡◌, ℕ, zero, suc, ◌+◌, ◌≤◌, max, List, [], ◌∷◌, ◌++◌, length, Bool, true, false, refl, arith}
 use Rattle.std.specs.Prelude.{if◌then◌else◌}
+use Rattle.list_denotation.specs.TermRows.{variables}
 use Rattle.list_denotation.specs.Terms.{Term, Lit, Var, Not, And, Or}
 use Rattle.stateful_core.specs.CoreTerms.{StopUnless, Update, When, Actions, Nil, Cons, join, CoreTerm, Lin, Tr, Nest, Zip}
 use Rattle.stateful_core.specs.CoreShapes.{actions_locals}
 use Rattle.stateful_core.specs.MostWords.{most_temps, row_temps, actions_temps, parts_temps, core_temps}
-use Rattle.stateful_core.specs.StreamCores.{variables}
 use Rattle.act_moves.specs.Flags.{skip_with, close_unless}
 use Rattle.act_moves.specs.Renumbering.{renumber, renumber_row, move_actions}
 use Rattle.act_moves.proofs.MovedTemps.{temps_renumbered, row_temps_renumbered, temps_moved, row_temps_append, temps_join, temps_lets}

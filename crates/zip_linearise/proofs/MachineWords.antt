@@ -5,12 +5,13 @@ use Rattle.std.proofs.lemmas.Bool.{ltb-true}
 use Rattle.std.proofs.lemmas.List.{length-replicate}
 use Rattle.strm_num.proofs.Truths.{both_true}
 use Rattle.list_denotation.specs.Scopes.{is_bound_leaf, all_bound}
+use Rattle.list_denotation.specs.TermRows.{variables}
 use Rattle.list_denotation.specs.Terms.{Term, Lit}
 use Rattle.list_denotation.specs.Typing.{all_undivided}
 use Rattle.stateful_core.specs.CoreTerms.{StopUnless, Update, Actions, Nil, Cons, CoreTerm, Lin, Tr, Nest, Zip}
 use Rattle.stateful_core.specs.CoreShapes.{actions_locals}
 use Rattle.stateful_core.specs.MostWords.{actions_words, parts_words, added_words, most_words}
-use Rattle.stateful_core.specs.StreamCores.{variables, let_all}
+use Rattle.stateful_core.specs.StreamCores.{let_all}
 use Rattle.stateful_core.specs.WellFormed.{is_sound_core}
 use Rattle.stateful_core.proofs.VariableRows.{length_variables}
 use Rattle.act_moves.specs.Flags.{skip_with, close_unless}

@@ -1,16 +1,11 @@
--- Rows that the code makes one by one: copies of others, and zeros.
+-- Rows of zeros that the code makes one by one.
 use Rattle.std.proofs.Common.{◌≡◌, ℕ, suc, ◌+◌, ◌-◌, ◌<◌, ◌≤◌, List, [], ◌∷◌, ◌++◌, sym, ap, ◌∙◌, append-nil, arith}
 use Rattle.list_denotation.specs.declared.expr.Expr.{Expr}
 use Rattle.list_denotation.specs.declared.expr.Expr.TheVariants as expr
 use Rattle.list_denotation.specs.Copies.{terms_of}
 use Rattle.list_denotation.specs.Terms.{Lit}
-use Rattle.stateful_core.proofs.CopiedRows.{terms_push, copy_step, copy_end}
-use Rattle.stateful_core.proofs.AppendedActs.{terms_length}
+use Rattle.list_denotation.proofs.MadeRows.{terms_push}
 use Rattle.zip_linearise.specs.HeldRows.{zeros}
-
-pub ruleset width_steps = (terms_length)
-
-pub ruleset append_steps = (copy_step, copy_end)
 
 zeros_left : (n i : ℕ) → i < n → zeros (n - i) ≡ Lit 0 ∷ zeros (n - (i + 1))
 zeros_left n i h = ap zeros (let q : n - i ≡ suc (n - (i + 1)) = omega arith in q)

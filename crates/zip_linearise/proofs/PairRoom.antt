@@ -1,11 +1,12 @@
 -- Where the words of two machines are few enough, each of them has a number of 32 bits in the machine of both.
 use Rattle.std.proofs.Common.{◌≡◌, ℕ, ◌+◌, ◌-◌, ◌^◌, ◌<◌, List, [], ◌∷◌, ◌++◌, length, refl, ap, arith}
 use Rattle.std.specs.Prelude.{IsTrue}
+use Rattle.list_denotation.specs.TermRows.{variables}
 use Rattle.list_denotation.specs.Terms.{Term, Lit, Var}
 use Rattle.stateful_core.specs.CoreTerms.{StopUnless, Update, When, Actions, Nil, Cons, join}
 use Rattle.stateful_core.specs.CoreShapes.{actions_locals}
 use Rattle.stateful_core.specs.MostWords.{actions_words}
-use Rattle.stateful_core.specs.StreamCores.{variables, set_state}
+use Rattle.stateful_core.specs.StreamCores.{set_state}
 use Rattle.stateful_core.specs.WellFormed.{is_sound_core}
 use Rattle.act_moves.specs.Flags.{skip_with, close_unless}
 use Rattle.act_moves.specs.Renumbering.{renumber, renumber_row, move_actions}

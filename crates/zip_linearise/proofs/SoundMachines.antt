@@ -4,11 +4,12 @@ use Rattle.std.specs.Prelude.{IsTrue, ◌==◌}
 use Rattle.std.proofs.lemmas.Bool.{eqb-true}
 use Rattle.strm_num.proofs.Truths.{both_true, true_both}
 use Rattle.list_denotation.specs.Scopes.{is_bound, all_bound}
+use Rattle.list_denotation.specs.TermRows.{variables}
 use Rattle.list_denotation.specs.Terms.{Term}
 use Rattle.list_denotation.specs.Typing.{all_undivided}
 use Rattle.stateful_core.specs.CoreTerms.{StopUnless, Actions, CoreTerm, Lin, Tr, Nest, Zip}
 use Rattle.stateful_core.specs.CoreShapes.{actions_locals, core_scope, core_width}
-use Rattle.stateful_core.specs.StreamCores.{variables, let_all}
+use Rattle.stateful_core.specs.StreamCores.{let_all}
 use Rattle.stateful_core.specs.WellFormed.{is_sure, is_sound_action, are_sound_actions, are_sound_parts, is_sound_core}
 use Rattle.stateful_core.proofs.VariableRows.{length_variables}
 use Rattle.act_moves.specs.Renumbering.{with_room, renumber, renumber_row, move_actions}

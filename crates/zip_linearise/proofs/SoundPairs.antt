@@ -4,10 +4,10 @@ use Rattle.std.proofs.lemmas.Bool.{le-leb}
 use Rattle.std.proofs.lemmas.List.{length-replicate}
 use Rattle.std.specs.Prelude.{IsTrue, nat_le, if◌then◌else◌}
 use Rattle.strm_num.proofs.Truths.{true_both}
+use Rattle.list_denotation.specs.TermRows.{variables}
 use Rattle.list_denotation.specs.Terms.{Lit, Var}
 use Rattle.stateful_core.specs.CoreTerms.{StopUnless, Update, When, Actions, Nil, Cons, join}
 use Rattle.stateful_core.specs.CoreShapes.{actions_locals}
-use Rattle.stateful_core.specs.StreamCores.{variables}
 use Rattle.stateful_core.specs.WellFormed.{is_sure, all_sure, is_sound_action, are_sound_actions}
 use Rattle.stateful_core.proofs.SoundCores.{sure_variables}
 use Rattle.act_moves.specs.Flags.{skip_with, close_unless}

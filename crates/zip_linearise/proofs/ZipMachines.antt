@@ -3,13 +3,13 @@ use Rattle.std.proofs.Common.{◌≡◌, ℕ, zero, suc, ◌+◌, List, [], ◌�
 use Rattle.std.specs.Prelude.{IsTrue, slice_index, if◌then◌else◌}
 use Rattle.std.proofs.lemmas.List.{length-replicate}
 use Rattle.list_denotation.specs.declared.input.Input.{Input}
+use Rattle.list_denotation.specs.TermRows.{variables}
 use Rattle.list_denotation.specs.Terms.{Term, Lit, Var, Not, And, Or}
 use Rattle.list_denotation.specs.Values.{Got, Is, Fails, with_value, choice, value}
 use Rattle.machine_turns.specs.ZipTurns.{ZipState, LeftDue, RightDue, zip_guard, left_turn, right_turn, zip_step}
 use Rattle.stateful_core.specs.Actions.{ActResult, Continue, Skip, Halt, Break, then_run, with_locals, run_acts}
 use Rattle.stateful_core.specs.CoreRows.{turn_end, core_turn, guard_value}
 use Rattle.stateful_core.specs.CoreTerms.{StopUnless, Update, Actions, Nil, Cons}
-use Rattle.stateful_core.specs.StreamCores.{variables}
 use Rattle.stateful_core.specs.Turns.{Gives, Skips}
 use Rattle.stateful_core.specs.WellFormed.{are_sound_actions}
 use Rattle.stateful_core.specs.WordValues.{or_zero, word_value, word_values}

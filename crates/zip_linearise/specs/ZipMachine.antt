@@ -1,9 +1,9 @@
 -- The machine of two machines side by side. The left row is held until the right machine gives one: so the end of that is seen
 -- after the left row.
 use Rattle.std.specs.Prelude.{ℕ, ◌+◌, [], ◌∷◌, ◌++◌, length, if◌then◌else◌}
+use Rattle.list_denotation.specs.TermRows.{variables}
 use Rattle.list_denotation.specs.Terms.{Term, Lit, Var, Not, And, Or}
 use Rattle.stateful_core.specs.CoreTerms.{StopUnless, Update, When, Actions, Nil, Cons, join}
-use Rattle.stateful_core.specs.StreamCores.{variables}
 use Rattle.act_moves.specs.Flags.{skip_with}
 use Rattle.act_moves.specs.Renumbering.{with_room, renumber, renumber_row, move_actions}
 use Rattle.zip_linearise.specs.HeldRows.{zeros, first_word, second_place, hold_acts, flag_or}

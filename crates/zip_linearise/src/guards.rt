@@ -7,8 +7,7 @@ ghost use Rattle.zip_linearise.specs.Machines.{is_always, join_guards};
 ghost use Rattle.zip_linearise.specs.HeldRows.{flag_or};
 ghost use Rattle.zip_linearise.specs.ZipMachine.{due_guard};
 
-use list_denotation::Expr;
-use stateful_core::boxed;
+use list_denotation::{Expr, boxed};
 use std::alloc::Global;
 use strm_num::NoMemory;
 

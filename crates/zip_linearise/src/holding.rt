@@ -10,12 +10,22 @@ ghost use Rattle.act_moves.specs.WordRoom.{number_in, most_in, RowReadsBelow, St
 ghost use Rattle.zip_linearise.specs.HeldRows.{zeros};
 
 use crate::machine::Machine;
-use crate::rows::{push_copies, push_zeros, width};
 use act_moves::{Halt, Room, push_moved, renumber_row};
-use list_denotation::{Expr, Exprs};
+use list_denotation::{Expr, Exprs, push_copies, width};
 use stateful_core::{Act, Acts};
 use std::alloc::Global;
 use strm_num::{List, NoMemory};
+
+/// Appends so many zeros. The one error is `NoMemory`.
+#[tactic(auto, using(crate::proofs::MadeRows::zero_steps))]
+pub fn push_zeros(n: u32, made: &mut Exprs) -> Result<(), NoMemory>
+    ensures { OnOk result (terms_of made.new ≡ terms_of made.old ++ zeros n) }
+{
+    for _i in 0..n {
+        made.push(Expr::Lit(0))?;
+    }
+    Ok(())
+}
 
 /// The flag, a place for the row of a machine, and its state. The one error is `NoMemory`.
 pub fn held_state(alloc: Global, m: &Machine) -> Result<Exprs, NoMemory>

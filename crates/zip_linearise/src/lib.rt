@@ -18,7 +18,6 @@ mod laws;
 mod linearising;
 mod machine;
 mod nests;
-mod rows;
 mod stages;
 mod zips;
 

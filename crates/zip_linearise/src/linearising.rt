@@ -18,8 +18,8 @@ use crate::nests::nest_machine;
 use crate::stages::stage_machine;
 use crate::zips::zip_machine;
 use act_moves::{Halt, Room, push_moved};
-use list_denotation::{Expr, Exprs};
-use stateful_core::{Acts, Core, copies, copy};
+use list_denotation::{Expr, Exprs, copies, copy};
+use stateful_core::{Acts, Core};
 use std::alloc::Global;
 use strm_num::{List, NoMemory};
 

@@ -16,11 +16,10 @@ ghost use Rattle.zip_linearise.specs.Machines.{machine_core};
 ghost use Rattle.zip_linearise.specs.NestMachine.{guarded_acts, nest_machine};
 
 use crate::guards::{flag_or, is_always};
-use crate::holding::{held_state, push_held};
+use crate::holding::{held_state, push_held, push_zeros};
 use crate::machine::{Machine, boxed_machine};
-use crate::rows::{push_zeros, width};
 use act_moves::{Halt, Room, push_close, push_moved, push_skip, renumber, renumber_row};
-use list_denotation::{Expr, Exprs};
+use list_denotation::{Expr, Exprs, width};
 use stateful_core::{Act, Acts};
 use std::alloc::Global;
 use strm_num::{List, NoMemory};

@@ -15,10 +15,9 @@ ghost use Rattle.zip_linearise.specs.Machines.{join_guards, machine_core, stage_
 
 use crate::guards::join_guards;
 use crate::machine::{Machine, boxed_machine};
-use crate::rows::{both_rows, width};
 use act_moves::{Halt, Room, push_moved, renumber, renumber_row};
-use list_denotation::{Expr, Exprs};
-use stateful_core::{Act, Acts, copies, copy, push_lets};
+use list_denotation::{Expr, Exprs, both_rows, width};
+use stateful_core::{Act, Acts, push_lets};
 use std::alloc::Global;
 use strm_num::{List, NoMemory};
 

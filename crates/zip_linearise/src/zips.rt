@@ -2,11 +2,12 @@
 
 ghost use Rattle.std.specs.Prelude.{◌≡◌, ◌+◌, ◌-◌, ◌<◌, ◌^◌, [], ◌∷◌, ◌++◌, length, IfOk, OnOk, IsTrue};
 ghost use Rattle.list_denotation.specs.Copies.{terms_of};
+ghost use Rattle.list_denotation.specs.TermRows.{variables};
 ghost use Rattle.list_denotation.specs.Terms.{Lit, Var};
 ghost use Rattle.stateful_core.specs.CoreCopies.{actions_of};
 ghost use Rattle.stateful_core.specs.CoreTerms.{StopUnless, Update, When, Cons, join};
 ghost use Rattle.stateful_core.specs.MostWords.{added_words};
-ghost use Rattle.stateful_core.specs.StreamCores.{variables, set_state};
+ghost use Rattle.stateful_core.specs.StreamCores.{set_state};
 ghost use Rattle.stateful_core.specs.WellFormed.{is_sound_core};
 ghost use Rattle.act_moves.specs.Flags.{skip_with};
 ghost use Rattle.act_moves.specs.Renumbering.{renumber_row, move_actions};
@@ -19,10 +20,9 @@ ghost use Rattle.zip_linearise.specs.ZipMachine.{zip_machine};
 use crate::guards::due_guard;
 use crate::holding::{held_state, push_held};
 use crate::machine::{Machine, boxed_machine};
-use crate::rows::{push_copies, width};
 use act_moves::{Halt, Room, push_flag, push_moved, push_skip, renumber, renumber_row};
-use list_denotation::{Expr, Exprs};
-use stateful_core::{Act, Acts, variables};
+use list_denotation::{Expr, Exprs, push_copies, variables, width};
+use stateful_core::{Act, Acts};
 use std::alloc::Global;
 use strm_num::{List, NoMemory};
 

@@ -1,14 +1,17 @@
--- Rows that the code makes one by one.
-use Rattle.std.proofs.Common.{◌≡◌, ℕ, suc, ◌+◌, ◌-◌, ◌≤◌, ◌<◌, List, [], ◌∷◌, ◌++◌, length, drop, Some, true, false, ◌&&◌, refl, sym, ap, ◌∙◌, arith, append-nil}
+-- Rows of expressions that the code makes one by one.
+use Rattle.std.proofs.Common.{◌≡◌, ℕ, suc, ◌+◌, ◌-◌, ◌≤◌, ◌<◌, List, [], ◌∷◌, ◌++◌, length, drop, Some, refl, sym, ap, ◌∙◌, arith, append-nil}
 use Rattle.std.specs.Prelude.{slice_get}
 use Rattle.std.proofs.lemmas.List.{drop_all}
 use Rattle.strm_num.proofs.Lists.{drop_at}
 use Rattle.list_denotation.specs.declared.expr.Expr.{Expr}
 use Rattle.list_denotation.specs.declared.expr.Expr.TheVariants as expr
 use Rattle.list_denotation.specs.Copies.{term_of, terms_of}
+use Rattle.list_denotation.specs.TermRows.{variables}
 use Rattle.list_denotation.specs.Terms.{Term, Var}
-use Rattle.list_denotation.specs.Typing.{is_undivided, all_undivided}
-use Rattle.stateful_core.specs.StreamCores.{variables}
+
+pub terms_length : (es : List Expr) → length (terms_of es) ≡ length es
+terms_length [] = refl
+terms_length (e ∷ es) = ap suc (terms_length es)
 
 pub terms_push : (row : List Expr) (e : Expr) (rest : List Term) → terms_of (row ++ e ∷ []) ++ rest ≡ terms_of row ++ term_of e ∷ rest
 terms_push [] e rest = refl
@@ -38,14 +41,3 @@ pub variable_start : (first count : ℕ) → variables (first + 0) (count - 0) �
 variable_start first count = ap (λ k. variables k (count - 0)) (let e : first + 0 ≡ first = omega arith in e) ∙ ap (variables first) (let e : count - 0 ≡ count = omega arith in e)
 
 pub ruleset variable_steps = (variable_step, variable_end, variable_start)
-
-pub undivided_step : (es : List Expr) (i : ℕ) (e : Expr) → slice_get es i ≡ Some e → is_undivided (term_of e) ≡ true → all_undivided (terms_of (drop i es)) ≡ all_undivided (terms_of (drop (i + 1) es))
-undivided_step es i e h q = ap (λ l. all_undivided (terms_of l)) (drop_at es i e h) ∙ ap (λ b. b && all_undivided (terms_of (drop (i + 1) es))) q
-
-pub divided_step : (es : List Expr) (i : ℕ) (e : Expr) → slice_get es i ≡ Some e → is_undivided (term_of e) ≡ false → all_undivided (terms_of (drop i es)) ≡ false
-divided_step es i e h q = ap (λ l. all_undivided (terms_of l)) (drop_at es i e h) ∙ ap (λ b. b && all_undivided (terms_of (drop (i + 1) es))) q
-
-pub undivided_end : (es : List Expr) (i : ℕ) → length es ≤ i → all_undivided (terms_of (drop i es)) ≡ true
-undivided_end es i h = ap (λ l. all_undivided (terms_of l)) (drop_all i es h)
-
-pub ruleset undivided_steps = (undivided_step, divided_step, undivided_end)

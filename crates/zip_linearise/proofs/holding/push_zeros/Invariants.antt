@@ -1,7 +1,7 @@
 use Rattle.std.proofs.Common.{◌≡◌, ◌-◌, ◌++◌}
 use Rattle.list_denotation.specs.Copies.{terms_of}
 use Rattle.zip_linearise.specs.HeldRows.{zeros}
-use Rattle.zip_linearise.proofs.rows.push_zeros.Given as goal
+use Rattle.zip_linearise.proofs.holding.push_zeros.Given as goal
 
 -- with the zeros that are left, the row so far is all
 abbrev pub invariant-loop-i : goal.invariant-loop-i

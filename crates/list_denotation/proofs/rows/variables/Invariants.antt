@@ -1,7 +1,7 @@
 use Rattle.std.proofs.Common.{◌≡◌, ◌++◌, ◌+◌, ◌-◌}
 use Rattle.list_denotation.specs.Copies.{terms_of}
-use Rattle.stateful_core.specs.StreamCores.{variables}
-use Rattle.stateful_core.proofs.expressions.variables.Given as goal
+use Rattle.list_denotation.specs.TermRows.{variables}
+use Rattle.list_denotation.proofs.rows.variables.Given as goal
 
 -- what is made, and then the variables left, are all
 abbrev pub invariant-loop-i : goal.invariant-loop-i

@@ -1,6 +1,6 @@
 use Rattle.std.proofs.Common.{◌≡◌, ◌++◌, drop}
 use Rattle.list_denotation.specs.Copies.{terms_of}
-use Rattle.zip_linearise.proofs.rows.push_copies.Given as goal
+use Rattle.list_denotation.proofs.copying.push_copies.Given as goal
 
 -- with what is left, the row so far is all
 abbrev pub invariant-loop-i : goal.invariant-loop-i
