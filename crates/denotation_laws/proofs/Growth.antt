@@ -6,13 +6,14 @@ use Rattle.list_denotation.specs.declared.input.Input.{Input}
 use Rattle.list_denotation.specs.Terms.{Pipe, Array, Range, Unfold, Map, Filter, Take, Drop, TakeWhile, Scan, FlatMap, Zip, Pipeline}
 use Rattle.list_denotation.specs.Inputs.{items_in}
 use Rattle.list_denotation.specs.Values.{Got, value, row_value}
-use Rattle.list_denotation.specs.Rows.{End, Cut, Broken, Rows, firsts, single_rows, unfold_rows}
+use Rattle.list_denotation.specs.Rows.{End, Rows, firsts, single_rows, unfold_rows}
 use Rattle.list_denotation.specs.Denotation.{count_of, words_between, denotation}
 use Rattle.list_denotation.specs.Observation.{observation}
 use Rattle.list_denotation.specs.Far.{Far}
-use Rattle.list_denotation.specs.Work.{row_count, after_end, sum_over, stream_work, work}
+use Rattle.list_denotation.specs.Work.{row_count, stream_work, work}
 use Rattle.denotation_laws.specs.FarRows.{FarRows, CutOff, SameEnd, SameRow}
 use Rattle.denotation_laws.proofs.FarRowsOrder.{far_itself, far_rows_trans}
+use Rattle.denotation_laws.proofs.OpeningSums.{sum_at_most}
 use Rattle.denotation_laws.proofs.FarStages.{unless_far, choice_far, map_far, filter_far, take_far, drop_far, take_while_far, scan_far, join_far, zip_far, finish_far}
 
 -- ---- sources
@@ -86,20 +87,6 @@ count_far (CutOff u) = omega arith
 count_far (SameEnd e) = omega arith
 count_far (SameRow r h) = omega (arith, count_far h)
 
-after_far : (m n : ℕ) {a b : Rows} → FarRows a b → m ≤ n → after_end a m 0 ≤ after_end b n 0
-after_far m n (CutOff u) le = omega arith
-after_far m n (SameEnd End) le = le
-after_far m n (SameEnd Cut) le = omega arith
-after_far m n (SameEnd (Broken e)) le = omega arith
-after_far m n (SameRow r h) le = after_far m n h le
-
-module _ (f g : List ℕ → Rows) (part more : List ℕ → ℕ) (rows : (r : List ℕ) → FarRows (f r) (g r)) (parts : (r : List ℕ) → part r ≤ more r) where
-  sum_far : {o u : Rows} → FarRows o u → sum_over o f part ◌+◌ 0 ≤ sum_over u g more ◌+◌ 0
-  sum_far (CutOff u) = omega arith
-  sum_far (SameEnd e) = omega arith
-  sum_far (SameRow r {o} {u} h) =
-      let rest = after_far (sum_over o f part ◌+◌ 0) (sum_over u g more ◌+◌ 0) (rows r) (sum_far h) in omega (arith, parts r, rest)
-
 module _ (inputs : List Input) (n : ℕ) where
   source_grows : (p : Pipe) (env : List ℕ) → row_count (denotation p env inputs n) + 1 ≤ row_count (denotation p env inputs (suc n)) + 1
   source_grows p env = omega (arith, count_far (stream_far inputs n p env))
@@ -115,11 +102,9 @@ module _ (inputs : List Input) (n : ℕ) where
   stream_work_grows (TakeWhile of e) env = stream_work_grows of env
   stream_work_grows (Scan of seed next) env = stream_work_grows of env
   stream_work_grows (FlatMap of inner) env =
-      let inner_rows = λ (r : List ℕ). stream_far inputs n inner (env ++ r) in
-      let inner_work = λ (r : List ℕ). stream_work_grows inner (env ++ r) in
-      let sum = sum_far (λ r. denotation inner (env ++ r) inputs n) (λ r. denotation inner (env ++ r) inputs (suc n))
-      (λ r. stream_work inner (env ++ r) inputs n) (λ r. stream_work inner (env ++ r) inputs (suc n)) inner_rows inner_work
-      (stream_far inputs n of env) in
+      let sum = sum_at_most (λ r. denotation inner (env ++ r) inputs n) (λ r. denotation inner (env ++ r) inputs (suc n))
+      (λ r. stream_work inner (env ++ r) inputs n) (λ r. stream_work inner (env ++ r) inputs (suc n)) _ _ (stream_far inputs n of env)
+      (λ r among. stream_far inputs n inner (env ++ r)) (λ r among. stream_work_grows inner (env ++ r)) in
       omega (arith, stream_work_grows of env, sum)
   stream_work_grows (Zip left right) env = omega (arith, stream_work_grows left env, stream_work_grows right env)
 

@@ -4,6 +4,7 @@ pub mod FarRowsOrder
 pub mod FarStages
 pub mod Growth
 pub mod JoinedRows
+pub mod OpeningSums
 pub mod ScopedValues
 pub mod ValueWords
 pub mod StreamRows

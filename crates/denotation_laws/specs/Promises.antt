@@ -153,18 +153,27 @@ TerminalsKeepFar =
     → Far (finish_rows t inputs o) (finish_rows t inputs u)
 
 -- What is made of the inner lists of a `flatMap` depends on those of its own rows alone: the lists
--- joined, and the sum of what their openings add.
+-- joined, and the sum of what their openings add, whatever is added.
 abbrev pub JoinedRowsDependOnInnerLists : Type 0
 JoinedRowsDependOnInnerLists =
     (f g : List ℕ → Rows) (rows : Rows)
     → ((r : List ℕ) → IsRowOf r rows → f r ≡ g r) → join_rows rows f ≡ join_rows rows g
 
-abbrev pub SumsDependOnInnerLists : Type 0
-SumsDependOnInnerLists =
-    (f g : List ℕ → Rows) (a b : List ℕ → ℕ) (rows : Rows)
+abbrev pub SumsDependOnInnerLists : (A : Type 0) → Type 0
+SumsDependOnInnerLists A =
+    (add : A → A → A) (none : A) (f g : List ℕ → Rows) (a b : List ℕ → A) (rows : Rows)
     → ((r : List ℕ) → IsRowOf r rows → f r ≡ g r)
     → ((r : List ℕ) → IsRowOf r rows → a r ≡ b r)
-    → sum_over rows f a ◌+◌ 0 ≡ sum_over rows g b ◌+◌ 0
+    → sum_over rows f a add none ≡ sum_over rows g b add none
+
+-- Where rows and the inner lists are as far as others, and each opening adds at most as much, the sum is
+-- at most as much.
+abbrev pub SumsGrowWithTheirRows : Type 0
+SumsGrowWithTheirRows =
+    (f g : List ℕ → Rows) (a b : List ℕ → ℕ) (o u : Rows) → FarRows o u
+    → ((r : List ℕ) → IsRowOf r o → FarRows (f r) (g r))
+    → ((r : List ℕ) → IsRowOf r o → a r ≤ b r)
+    → sum_over o f a ◌+◌ 0 ≤ sum_over u g b ◌+◌ 0
 
 -- ---- values
 

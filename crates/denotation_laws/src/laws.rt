@@ -1,5 +1,6 @@
 //! Laws of the definitions. These functions do nothing: their contracts are the laws, which specs/Promises tells.
 
+ghost use Rattle.std.specs.Prelude.{ℕ, List};
 ghost use Rattle.denotation_laws.specs.Promises.{NoObservationIsStuck, RowsGrow, ObservationsGrow};
 ghost use Rattle.denotation_laws.specs.Promises.{WorkGrows, RowsGrowWithTheBound};
 ghost use Rattle.denotation_laws.specs.Promises.{ObservationsGrowWithTheBound, WorkGrowsWithTheBound};
@@ -11,7 +12,7 @@ ghost use Rattle.denotation_laws.specs.Promises.{DropsKeepFarRows, TakeWhilesKee
 ghost use Rattle.denotation_laws.specs.Promises.{ScansKeepFarRows, RowsThatFollowKeepFarRows};
 ghost use Rattle.denotation_laws.specs.Promises.{JoinedRowsKeepFarRows, ZippedRowsKeepFarRows};
 ghost use Rattle.denotation_laws.specs.Promises.{TerminalsKeepFar, JoinedRowsDependOnInnerLists};
-ghost use Rattle.denotation_laws.specs.Promises.{SumsDependOnInnerLists};
+ghost use Rattle.denotation_laws.specs.Promises.{SumsDependOnInnerLists, SumsGrowWithTheirRows};
 ghost use Rattle.denotation_laws.specs.Promises.{ExpressionsReadBoundWordsAlone};
 ghost use Rattle.denotation_laws.specs.Promises.{RowsReadBoundWordsAlone, BoundExpressionsStayBound};
 ghost use Rattle.denotation_laws.specs.Promises.{BoundRowsStayBound, UndividedExpressionsHaveValues};
@@ -72,7 +73,12 @@ pub fn stages_keep_far_rows()
 
 pub fn joined_rows_depend_on_inner_lists()
     ensures joins { JoinedRowsDependOnInnerLists }
-    ensures sums { SumsDependOnInnerLists }
+    ensures sums { SumsDependOnInnerLists ℕ }
+    ensures sums_of_lists { SumsDependOnInnerLists (List ℕ) }
+{}
+
+pub fn sums_grow_with_their_rows()
+    ensures { SumsGrowWithTheirRows }
 {}
 
 // ---- values

@@ -15,5 +15,6 @@ pub use laws::{
     expressions_read_bound_words_alone, far_is_an_order, far_rows_is_an_order,
     joined_rows_depend_on_inner_lists, no_observation_is_stuck, observations_grow,
     ranges_and_counts_go_by_one, rows_have_their_width, stages_keep_far_rows,
-    typed_streams_read_their_scopes, undivided_expressions_have_values, values_are_words,
+    sums_grow_with_their_rows, typed_streams_read_their_scopes, undivided_expressions_have_values,
+    values_are_words,
 };

@@ -5,7 +5,8 @@ use Rattle.strm_num.specs.Magnitudes.{magnitude_of}
 use Rattle.list_denotation.specs.declared.expr.BinOp.{BinOp}
 use Rattle.list_denotation.specs.declared.expr.BinOp.TheVariants as sign
 use Rattle.list_denotation.specs.Terms.{Term, Neg, Not, Bin, And, Or, If}
-use Rattle.list_denotation.specs.Counts.{term_nodes, term_depth}
+use Rattle.list_denotation.specs.Costs.{operation_cost, cost}
+use Rattle.list_denotation.specs.Counts.{term_depth}
 use Rattle.loop_ir.specs.declared.syntax.WOp.{WOp}
 use Rattle.loop_ir.specs.Statements as s
 use Rattle.loop_ir.specs.Statements.{Operand, Var, Test, Set, Block, Nil, Cons, join}
@@ -16,7 +17,7 @@ use Rattle.expr_constants.specs.Simple.{is_simple}
 use Rattle.expr_forms.specs.Forms.{Form, AWord, ATest, InTarget, Lowered, is_word, operand_rest, operand_block, target_rest, into, as_word, in_target, lowered_minus, lowered_arithmetic, lowered_comparison, division_operand_block, division_operand_in, operand_in, lowered_division, lowered_operation, lowered_multiple, condition_in, condition_of, is_empty, is_neutral, lowered_truth, lowered_connective, lowered_connected, lowered_chosen}
 use Rattle.expr_lower.specs.Lowering.{lowered_binary, folded, lowered_parts, lowered_dividend, lowered_term, lowered_into, lowered_test}
 use Rattle.expr_lower.specs.Laws.{Laws}
-use Rattle.expr_lower.specs.Costs.{operation_cost, cost, is_direct, unless_constant, binary_temps, connected_temps, chosen_temps, operation_temps, parts_temps, dividend_temps, temps_of}
+use Rattle.expr_lower.specs.Costs.{is_direct, unless_constant, binary_temps, connected_temps, chosen_temps, operation_temps, parts_temps, dividend_temps, temps_of}
 use Rattle.expr_lower.specs.Multiples.{divisor_of, dividend_of, multiple_divisor}
 use Rattle.expr_lower.proofs.MultipleTests.{multiple_is}
 use Rattle.loop_ir.proofs.JoinedBlocks.{count_join, loops_join}
@@ -251,25 +252,6 @@ few_in_operand laws rows e v t = omega (arith, operand_within block_count 1 (cou
 
 pub no_loops_in_operand : (laws : Laws) (rows : List ℕ) (e : Term) (v t : ℕ) → block_loops (operand_block (lowered_term rows e v t) v) ≡ 0
 no_loops_in_operand laws rows e v t = omega (arith, operand_within block_loops 0 (loops_size laws) (lowered_term rows e v t) v, no_loops laws rows e v t)
-
--- the cost of an operation is at most that of a division
-operation_within : (o : BinOp) → operation_cost o ≤ 9
-operation_within sign.Add = omega arith
-operation_within sign.Sub = omega arith
-operation_within sign.Mul = omega arith
-operation_within sign.Div = omega arith
-operation_within sign.Rem = omega arith
-operation_within _ = omega arith
-
--- at most 9 statements for each node
-pub cost_nodes : (e : Term) → cost e ≤ 9 * term_nodes e
-cost_nodes (Neg a) = omega (arith, cost_nodes a)
-cost_nodes (Not a) = omega (arith, cost_nodes a)
-cost_nodes (Bin o a b) = omega (arith, cost_nodes a, cost_nodes b, operation_within o)
-cost_nodes (And a b) = omega (arith, cost_nodes a, cost_nodes b)
-cost_nodes (Or a b) = omega (arith, cost_nodes a, cost_nodes b)
-cost_nodes (If c a b) = omega (arith, cost_nodes c, cost_nodes a, cost_nodes b)
-cost_nodes _ = omega arith
 
 -- ---- temporaries
 

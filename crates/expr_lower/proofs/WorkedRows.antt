@@ -10,7 +10,8 @@ use Rattle.loop_ir.specs.declared.syntax.Verdict.TheVariants as verdict
 use Rattle.loop_ir.specs.Statements.{Const, Var, Int, Bin, Same, Less, Not, Set, If, Ret, Nil, Cons}
 use Rattle.loop_ir.specs.Meaning.{Runs, Over, run}
 use Rattle.expr_lower.specs.Lowering.{lowered_term, lowered_into, lowered_test}
-use Rattle.expr_lower.specs.Costs.{cost, temps_of}
+use Rattle.list_denotation.specs.Costs.{cost}
+use Rattle.expr_lower.specs.Costs.{temps_of}
 
 -- 10 / x
 abbrev ten_by : Term

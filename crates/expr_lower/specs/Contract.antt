@@ -14,7 +14,8 @@ use Rattle.loop_ir.specs.DeclaredNames.{Names, operand_names, test_names, block_
 use Rattle.loop_ir.specs.Statements.{Operand, Test, Block}
 use Rattle.loop_ir.specs.Meaning.{Runs, Over, operand_value, test_value, run}
 use Rattle.state_alloc.specs.declared.slots.Slots.{Slots}
-use Rattle.expr_lower.specs.Costs.{cost, temps_of}
+use Rattle.list_denotation.specs.Costs.{cost}
+use Rattle.expr_lower.specs.Costs.{temps_of}
 use Rattle.expr_forms.specs.Forms.{operand_block, operand_in}
 use Rattle.expr_lower.specs.Lowering.{lowered_term, lowered_into, lowered_test}
 use Rattle.expr_lower.specs.Scopes.{IsOutside, IsUnread, WordsInPlace, MayNameWords}

@@ -1,40 +1,13 @@
--- How many statements and temporaries an expression takes.
+-- Which expressions are one word of the C text, and how many temporaries the others take.
 use Rattle.std.specs.Prelude.{ℕ, ◌+◌, max, Bool, true, false, ◌&&◌, ◌||◌, if◌then◌else◌, Option, is_some}
 use Rattle.list_denotation.specs.declared.expr.BinOp.{BinOp}
-use Rattle.list_denotation.specs.declared.expr.BinOp.TheVariants.{Add, Sub, Mul, Div, Rem, Eq, Ne, Lt, Le, Gt, Ge}
+use Rattle.list_denotation.specs.declared.expr.BinOp.TheVariants.{Add, Sub, Mul}
 use Rattle.list_denotation.specs.Terms.{Term, Lit, Truth, Var, Param, Len, Neg, Not, Bin, And, Or, If}
 use Rattle.list_denotation.specs.Typing.{is_division}
 use Rattle.list_denotation.specs.Values.{choice}
 use Rattle.expr_constants.specs.Constants.{by_constant, constant_of}
 use Rattle.expr_constants.specs.Simple.{is_leaf, is_simple}
 use Rattle.expr_lower.specs.Multiples.{multiple_divisor}
-
-abbrev pub operation_cost : BinOp → ℕ
-operation_cost Add = 1
-operation_cost Sub = 1
-operation_cost Mul = 1
-operation_cost Div = 9
-operation_cost Rem = 9
-operation_cost Eq = 3
-operation_cost Ne = 3
-operation_cost Lt = 3
-operation_cost Le = 3
-operation_cost Gt = 3
-operation_cost Ge = 3
-
--- a bound on the statements, from 1 to 9 for each node
-abbrev pub cost : Term → ℕ
-cost (Lit c) = 1
-cost (Truth b) = 1
-cost (Var k) = 1
-cost (Param k) = 1
-cost (Len k) = 1
-cost (Neg a) = cost a + 1
-cost (Not a) = cost a + 3
-cost (Bin o a b) = cost a + cost b + operation_cost o
-cost (And a b) = cost a + cost b + 5
-cost (Or a b) = cost a + cost b + 5
-cost (If c a b) = cost c + cost a + cost b + 1
 
 -- sums and products are words of the C text, where their parts are
 abbrev pub is_arithmetic : BinOp → Bool

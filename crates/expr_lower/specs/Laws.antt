@@ -1,6 +1,4 @@
 -- The laws of the phrases that the statements of expressions rest on.
-use Rattle.loop_ir.specs.Leaves.{operand_leaves}
-use Rattle.expr_phrases.specs.Phrases.{minus, opposite}
 use Rattle.expr_constants.specs.Promises.{ConstantsAreValues, ConstantsAreWords}
 use Rattle.expr_forms.specs.Promises.{ChoiceHasLeavesOfItsParts, ConditionHasLeavesOfItsForm}
 use Rattle.expr_forms.specs.Promises.{ConnectiveHasLeavesOfItsParts, MinusHasLeavesOfItsPart}

@@ -1,6 +1,7 @@
 -- What is promised of the definitions. Each statement has one name, which its law and those who stand on it cite.
 use Rattle.std.specs.Prelude.{◌≡◌, ℕ, ◌<◌, ◌≤◌, ◌*◌, List, IsTrue, length, slice_index}
 use Rattle.list_denotation.specs.declared.input.Input.{Input}
+use Rattle.list_denotation.specs.Costs.{cost}
 use Rattle.list_denotation.specs.Counts.{term_nodes, term_depth}
 use Rattle.list_denotation.specs.Literals.{has_words}
 use Rattle.list_denotation.specs.Scopes.{is_bound}
@@ -11,7 +12,7 @@ use Rattle.loop_ir.specs.DeclaredNames.{Names, test_names}
 use Rattle.loop_ir.specs.Statements.{Set, Nil, Cons}
 use Rattle.state_alloc.specs.Layouts.{IsLaidOut}
 use Rattle.expr_lower.specs.Contract.{Scope, value_block, condition_block, condition_test, operand_statements, operand_word, IsTarget, IsLowerable, PutsValue, TellsTruth, YieldsWord, StandsFor, NamesOnly, TestNamesOnly, WordNamesOnly}
-use Rattle.expr_lower.specs.Costs.{cost, is_plain, temps_of}
+use Rattle.expr_lower.specs.Costs.{is_plain, temps_of}
 use Rattle.expr_forms.specs.Forms.{is_empty}
 use Rattle.expr_lower.specs.PlainWords.{plain_word}
 use Rattle.expr_lower.specs.Scopes.{WordsInPlace, ScopeInPlace, MayNameWords}

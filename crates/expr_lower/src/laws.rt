@@ -19,6 +19,7 @@ use expr_phrases::{
     comparisons_tell_the_signed_order, divisions_assign_signed_results, opposites_negate,
     zero_remainders_need_no_sign,
 };
+use list_denotation::costs_go_with_nodes;
 
 /// What the crates below promise of their definitions.
 pub fn laws_below()
@@ -34,7 +35,9 @@ pub fn laws_below()
 
 pub fn costs_are_few()
     ensures { CostsAreFew }
-{}
+{
+    costs_go_with_nodes();
+}
 
 pub fn temporaries_are_few()
     ensures { TemporariesAreFew }

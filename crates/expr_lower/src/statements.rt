@@ -8,7 +8,8 @@ ghost use Rattle.loop_ir.specs.Constants.{operand_has_words, test_has_words, blo
 ghost use Rattle.loop_ir.specs.Counts.{block_count, block_loops};
 ghost use Rattle.loop_ir.specs.StatementCopies.{operand_of, test_of, block_of};
 ghost use Rattle.expr_lower.specs.Contract.{scope_of, value_block, condition_block, condition_test, operand_statements, operand_word, IsTarget, GivesValue, GivesTruth, GivesWord, NamesOnly, TestNamesOnly, WordNamesOnly};
-ghost use Rattle.expr_lower.specs.Costs.{cost, temps_of};
+ghost use Rattle.list_denotation.specs.Costs.{cost};
+ghost use Rattle.expr_lower.specs.Costs.{temps_of};
 ghost use Rattle.expr_phrases.specs.PhraseCopies.{Appends};
 
 use crate::laws::laws_below;

@@ -4,4 +4,5 @@ pub mod ZipOfNested
 pub mod WorkedRows
 pub mod TypedLeaves
 pub mod MadeRows
+pub mod CostsOfNodes
 pub mod UndividedRows

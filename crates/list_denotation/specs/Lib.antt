@@ -10,6 +10,7 @@ pub mod Observation
 pub mod Far
 pub mod Work
 pub mod Counts
+pub mod Costs
 pub mod Typing
 pub mod Leaves
 pub mod Scopes

@@ -4,6 +4,7 @@ ghost use Rattle.list_denotation.specs.Promises.{TypedProgramsKeepLimits};
 ghost use Rattle.list_denotation.specs.Promises.{TypedProgramsHaveRowsWithKinds};
 ghost use Rattle.list_denotation.specs.Promises.{TypedExpressionsReadBoundWords};
 ghost use Rattle.list_denotation.specs.Promises.{TypedExpressionsNameDeclaredInputs};
+ghost use Rattle.list_denotation.specs.Promises.{CostsGoWithNodes, UndividedCostsGoWithNodes};
 
 pub fn typed_programs_keep_limits()
     ensures limits { TypedProgramsKeepLimits }
@@ -13,4 +14,9 @@ pub fn typed_programs_keep_limits()
 pub fn typed_expressions_read_the_scope()
     ensures bound { TypedExpressionsReadBoundWords }
     ensures inputs { TypedExpressionsNameDeclaredInputs }
+{}
+
+pub fn costs_go_with_nodes()
+    ensures any { CostsGoWithNodes }
+    ensures undivided { UndividedCostsGoWithNodes }
 {}

@@ -32,7 +32,7 @@ pub use event::{Event, Events};
 pub use expr::{BinOp, Expr, Exprs};
 pub use input::{Input, InputKind, InputKinds, Inputs, Words};
 pub use kind::{Kind, Kinds};
-pub use laws::{typed_expressions_read_the_scope, typed_programs_keep_limits};
+pub use laws::{costs_go_with_nodes, typed_expressions_read_the_scope, typed_programs_keep_limits};
 pub use program::Program;
 pub use rows::{single, variables, width};
 pub use stream::Stream;

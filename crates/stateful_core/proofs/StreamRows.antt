@@ -143,7 +143,7 @@ module _ (laws : Laws) (may : InputNames) (kinds : List InputKind) (inputs : Lis
       let e = length env + stream_width of in
       rw (rows_at of env w s.0 p.0, work_at of env w s.0 p.0)
       (ap (λ k. stream_work of env inputs n + k)
-      (laws.sums (λ r. core_rows (core_at e inner) (env ++ r) inputs n) (λ r. denotation inner (env ++ r) inputs n)
+      (laws.sums ◌+◌ 0 (λ r. core_rows (core_at e inner) (env ++ r) inputs n) (λ r. denotation inner (env ++ r) inputs n)
       (λ r. core_work (core_at e inner) (env ++ r) inputs n) (λ r. stream_work inner (env ++ r) inputs n) (denotation of env inputs n)
       (behind_rows of inner env w s.0 s.1 p.0 (λ c v. core_rows c v inputs n ≡ denotation inner v inputs n) (λ v u t. rows_at inner v u t p.1))
       (behind_rows of inner env w s.0 s.1 p.0 (λ c v. core_work c v inputs n ≡ stream_work inner v inputs n) (λ v u t. work_at inner v u t p.1))))

@@ -1,4 +1,5 @@
 -- The laws of the crates below that the core of a program rests on.
+use Rattle.std.specs.Prelude.{ℕ}
 use Rattle.denotation_laws.specs.Promises.{ArraysHaveFewItems, BoundExpressionsStayBound}
 use Rattle.denotation_laws.specs.Promises.{BoundRowsStayBound, EachOfRowsIsARow}
 use Rattle.denotation_laws.specs.Promises.{ExpressionsReadBoundWordsAlone}
@@ -30,7 +31,7 @@ pub record Laws : Type 0 where
   pub each_row : EachOfRowsIsARow
   -- of inner lists
   pub joins : JoinedRowsDependOnInnerLists
-  pub sums : SumsDependOnInnerLists
+  pub sums : SumsDependOnInnerLists ℕ
   -- of ranges
   pub range_goes_on : RangesGoUpByOne
   pub range_is_over : RangesEndAtTheirBound

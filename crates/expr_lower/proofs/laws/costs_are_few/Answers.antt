@@ -1,5 +1,5 @@
-use Rattle.expr_lower.proofs.Costs.{cost_nodes}
+use Rattle.std.proofs.Common.{arith}
 use Rattle.expr_lower.proofs.laws.costs_are_few.Goals as goal
 
 pub returns : goal.returns
-returns c = cost_nodes
+returns c = λ e. omega (arith, c.costs_go_with_nodes.ensures.any e)

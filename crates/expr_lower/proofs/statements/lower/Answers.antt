@@ -6,7 +6,7 @@ use Rattle.loop_ir.specs.Constants.{block_has_words}
 use Rattle.loop_ir.specs.Counts.{block_count, block_loops}
 use Rattle.loop_ir.specs.StatementCopies.{block_of}
 use Rattle.expr_lower.specs.Contract.{scope_of, GivesValue, NamesOnly}
-use Rattle.expr_lower.specs.Costs.{cost}
+use Rattle.list_denotation.specs.Costs.{cost}
 use Rattle.expr_lower.proofs.Contract.{of_all}
 use Rattle.expr_lower.proofs.statements.lower.Goals as goal
 
