@@ -4,8 +4,8 @@
 //! alone. The law here says that there is one for each text, whatever its bytes, with no refusal of
 //! memory: the line of the header stands there or doesn't, the text is cut to its end or stops, its
 //! brackets are within the limit or aren't, its tokens are a program or stop, and its names are all
-//! declared or one isn't. It depends on the laws of c_automaton and c_faults, and on c_words, c_tokens
-//! and c_grammar for what is a token and a program.
+//! declared or one isn't. It depends on the laws of c_automaton and c_faults, on c_words, c_tokens
+//! and c_grammar for what is a token and a program, and on pipe_limits for the limit on brackets.
 #![tactic(auto)]
 
 mod laws;

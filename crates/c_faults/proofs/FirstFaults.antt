@@ -9,7 +9,8 @@ use Rattle.c_tokens.specs.Cutting.{Token}
 use Rattle.c_tokens.specs.Pieces.{What}
 use Rattle.c_grammar.specs.Reading.{whats}
 use Rattle.c_faults.specs.Answers.{HasTokenAt, IsTooDeep}
-use Rattle.c_faults.specs.Brackets.{depth_with, depth_behind, most_open, is_within}
+use Rattle.c_faults.specs.Brackets.{depth_with, depth_behind, is_within}
+use Rattle.pipe_limits.specs.declared.TheConstants.{MOST_OPEN_BRACKETS}
 use Rattle.c_faults.specs.Undeclared.{IsUndeclared, IsDeclared}
 
 -- ---- the first token
@@ -35,16 +36,16 @@ module _ (holds : List Token → Token → Type 0) (once : (x d : List Token) (t
 -- ---- brackets
 
 -- tokens that are within the limit are so at each
-within_there : (x rest : List Token) (t : Token) (depth : ℕ) → is_within depth (whats (x ++ t ∷ rest)) ≡ true → depth_with (depth_behind depth (whats x)) t.what ≤ most_open
+within_there : (x rest : List Token) (t : Token) (depth : ℕ) → is_within depth (whats (x ++ t ∷ rest)) ≡ true → depth_with (depth_behind depth (whats x)) t.what ≤ MOST_OPEN_BRACKETS
 within_there [] rest t depth h =
-    let parts = both_true (nat_le (depth_with depth t.what) most_open) (is_within (depth_with depth t.what) (whats rest)) h in
-    leb-true (depth_with depth t.what) most_open parts.0
+    let parts = both_true (nat_le (depth_with depth t.what) MOST_OPEN_BRACKETS) (is_within (depth_with depth t.what) (whats rest)) h in
+    leb-true (depth_with depth t.what) MOST_OPEN_BRACKETS parts.0
 within_there (u ∷ x) rest t depth h =
     let next = depth_with depth u.what in
-    let parts = both_true (nat_le next most_open) (is_within next (whats (x ++ t ∷ rest))) h in
+    let parts = both_true (nat_le next MOST_OPEN_BRACKETS) (is_within next (whats (x ++ t ∷ rest))) h in
     within_there x rest t next parts.1
 
-deep_or_within : (x rest : List Token) (t : Token) → most_open < depth_with (depth_behind 0 (whats x)) t.what → is_within 0 (whats (x ++ t ∷ rest)) ≡ true → ⊥
+deep_or_within : (x rest : List Token) (t : Token) → MOST_OPEN_BRACKETS < depth_with (depth_behind 0 (whats x)) t.what → is_within 0 (whats (x ++ t ∷ rest)) ≡ true → ⊥
 deep_or_within x rest t deep within =
     let there = within_there x rest t 0 within in omega arith
 

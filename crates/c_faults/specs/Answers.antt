@@ -7,7 +7,8 @@ use Rattle.c_tokens.specs.Pieces.{Piece, IsPiece}
 use Rattle.c_tokens.specs.Cutting.{Token, Part, Passes, AreTokensOf}
 use Rattle.c_grammar.specs.Grammar.{IsProgram}
 use Rattle.c_grammar.specs.Reading.{HasHeader, whats, Reads}
-use Rattle.c_faults.specs.Brackets.{depth_with, depth_behind, most_open, is_within}
+use Rattle.c_faults.specs.Brackets.{depth_with, depth_behind, is_within}
+use Rattle.pipe_limits.specs.declared.TheConstants.{MOST_OPEN_BRACKETS}
 use Rattle.c_faults.specs.Undeclared.{IsUndeclared, IsDeclared}
 use Rattle.c_faults.specs.declared.fault.CFault.{CFault}
 use Rattle.c_faults.specs.declared.fault.CFault.TheVariants as fault
@@ -73,7 +74,7 @@ pub record IsLexFault (text : List ℕ) (at : ℕ) : Type 0 where
 -- with this token, and with none before it, more brackets are open than may be
 pub record IsTooDeep (before : List Token) (t : Token) : Type 0 where
   pub within : is_within 0 (whats before) ≡ true
-  pub too_deep : most_open < depth_with (depth_behind 0 (whats before)) t.what
+  pub too_deep : MOST_OPEN_BRACKETS < depth_with (depth_behind 0 (whats before)) t.what
 
 pub record IsDepthFault (text : List ℕ) (at : ℕ) : Type 0 where
   pub toks : List Token

@@ -2,6 +2,7 @@
 use Rattle.std.specs.Prelude.{ℕ, ◌+◌, ◌-◌, nat_le, Bool, true, ◌&&◌, List, [], ◌∷◌}
 use Rattle.c_tokens.specs.declared.symbol.Symbol.TheVariants as sym
 use Rattle.c_tokens.specs.Pieces.{What, Sym}
+use Rattle.pipe_limits.specs.declared.TheConstants.{MOST_OPEN_BRACKETS}
 
 -- how many brackets are open behind a token: ( and { open one, ) and } close one
 abbrev pub depth_with : ℕ → What → ℕ
@@ -16,11 +17,7 @@ abbrev pub depth_behind : ℕ → List What → ℕ
 depth_behind depth [] = depth
 depth_behind depth (t ∷ x) = depth_behind (depth_with depth t) x
 
--- how many brackets may be open
-abbrev pub most_open : ℕ
-most_open = 1024
-
--- behind none of the tokens are more open
+-- behind none of the tokens are more open than may be
 abbrev pub is_within : ℕ → List What → Bool
 is_within depth [] = true
-is_within depth (t ∷ x) = nat_le (depth_with depth t) most_open && is_within (depth_with depth t) x
+is_within depth (t ∷ x) = nat_le (depth_with depth t) MOST_OPEN_BRACKETS && is_within (depth_with depth t) x

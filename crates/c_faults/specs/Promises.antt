@@ -39,3 +39,9 @@ ProgramsOfTextsHaveWords =
 abbrev pub ProgramsHaveFewParams : Type 0
 ProgramsHaveFewParams =
     (q : Routine) (toks : List What) → IsProgram q toks → length q.params ≤ 2 ^ 32
+
+-- A program that a text is cut into declares at most as many variables as the text has bytes.
+abbrev pub ProgramsOfTextsHaveFewVariables : Type 0
+ProgramsOfTextsHaveFewVariables =
+    (text : List ℕ) (toks : List Token) (q : Routine)
+    → AreTokensOf text toks → IsProgram q (whats toks) → q.vars ≤ length text

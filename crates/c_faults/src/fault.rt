@@ -11,7 +11,7 @@ pub enum CFault {
     /// No token, blank or whole comment begins at this place.
     #[error("Lex")]
     Lex(u32),
-    /// With the bracket at this place more than 1,024 are open.
+    /// With the bracket at this place more than `MOST_OPEN_BRACKETS` are open.
     #[error("TooDeep")]
     TooDeep(u32),
     /// With the token at this place no program goes on; or the text, which is so long, only begins one.

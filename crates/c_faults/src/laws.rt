@@ -2,7 +2,7 @@
 
 ghost use Rattle.c_faults.specs.Promises.{CTextsHaveOneAnswer, DeclaredTokensAreDeclaredNames};
 ghost use Rattle.c_faults.specs.Promises.{DeclaredNamesAreDeclaredTokens, ProgramsOfTextsHaveWords};
-ghost use Rattle.c_faults.specs.Promises.{ProgramsHaveFewParams};
+ghost use Rattle.c_faults.specs.Promises.{ProgramsHaveFewParams, ProgramsOfTextsHaveFewVariables};
 
 pub fn texts_have_one_answer()
     ensures { CTextsHaveOneAnswer }
@@ -19,4 +19,8 @@ pub fn programs_of_texts_have_words()
 
 pub fn programs_have_few_params()
     ensures { ProgramsHaveFewParams }
+{}
+
+pub fn programs_of_texts_have_few_variables()
+    ensures { ProgramsOfTextsHaveFewVariables }
 {}

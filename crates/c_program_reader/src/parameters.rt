@@ -13,7 +13,7 @@ use loop_ir::InputKind;
 use strm_num::NoMemory;
 
 /// The numbers that names have are below this one.
-pub const NUMBERS: u64 = 1 << 32;
+const NUMBERS: u64 = 1 << 32;
 
 impl ProgramReader {
     /// Begins a parameter of this kind, behind its first keyword.

@@ -1,6 +1,7 @@
 //! What has been read of a program, and the steps over its tokens.
 
-ghost use Rattle.std.specs.Prelude.{◌≡◌, cond, IfOk, Some, None, option_map};
+ghost use Rattle.std.specs.Prelude.{◌≡◌, ◌<◌, ◌^◌, cond, IfOk, Some, None, option_map};
+ghost use Rattle.std.specs.Option.{ForSome};
 ghost use Rattle.c_automaton.specs.Automaton.{at_next, awaits, finish, start, step};
 ghost use Rattle.loop_ir.specs.StatementCopies.{routine_from};
 ghost use Rattle.c_phrase_reader.specs.PhraseCopies.{if_taken};
@@ -8,7 +9,6 @@ ghost use Rattle.c_program_reader.specs.StateCopies.{routine_of, state_of};
 
 use crate::awaited::await_all;
 use crate::blocks::Level;
-use crate::parameters::NUMBERS;
 use c_automaton::{Form, Next};
 use c_phrase_reader::Reading;
 use c_tokens::Symbol;
@@ -50,14 +50,12 @@ pub struct ProgramReader {
 }
 
 /// The program of these parts.
-fn program_from(params: InputKinds, vars: u64, body: Stmts) -> Result<Option<Parsed>, NoMemory>
-    ensures { IfOk result (λ found. option_map routine_of found ≡ Some (routine_from params vars body)) }
+fn program_from(params: InputKinds, vars: u64, body: Stmts) -> Parsed
+    requires { vars < 2 ^ 32 }
+    ensures { routine_of result ≡ routine_from params vars body }
 {
-    if vars >= NUMBERS {
-        return Err(NoMemory);
-    }
     let vars = vars as u32;
-    Ok(Some(Parsed { params, vars, body }))
+    Parsed { params, vars, body }
 }
 
 impl ProgramReader {
@@ -138,10 +136,11 @@ impl ProgramReader {
         }
     }
 
-    /// The program, where the tokens end; none if they only begin one. The one error is `NoMemory`, also
-    /// where the program declares 2^32 variables, one more than `Parsed` can say.
-    pub fn finish(self) -> Result<Option<Parsed>, NoMemory>
-        ensures { IfOk result (λ found. finish (state_of self) ≡ option_map routine_of found) }
+    /// The program, where the tokens end; none if they only begin one. It has fewer than 2^32 variables, as
+    /// has each program of a text with fewer bytes.
+    pub fn finish(self) -> Option<Parsed>
+        requires { ForSome (finish (state_of self)) (λ q. q.vars < 2 ^ 32) }
+        ensures { finish (state_of self) ≡ option_map routine_of result }
     {
         let is_at_end = self.is_at_end();
         let ProgramReader {
@@ -151,9 +150,9 @@ impl ProgramReader {
             ..
         } = self;
         if is_at_end {
-            program_from(params, vars, here)
+            Some(program_from(params, vars, here))
         } else {
-            Ok(None)
+            None
         }
     }
 }

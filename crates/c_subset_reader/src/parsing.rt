@@ -1,4 +1,5 @@
 ghost use Rattle.std.specs.Prelude.{◌≡◌, ◌<◌, ◌^◌, List, length, IfErr, IfOk, MatchResult, option_map, true};
+ghost use Rattle.std.specs.Option.{ForSome};
 ghost use Rattle.c_automaton.specs.Automaton.{finish, start};
 ghost use Rattle.c_faults.specs.Brackets.{is_within};
 ghost use Rattle.c_grammar.specs.Grammar.{IsProgram};
@@ -8,9 +9,9 @@ ghost use Rattle.c_subset_reader.specs.Reached.{IsReached};
 ghost use Rattle.c_subset_reader.specs.TextAnswers.{IsPlaceWithin, IsTokenFault};
 ghost use Rattle.c_tokens.specs.Cutting.{Token, AreTokensOf};
 
-use crate::depth::{MOST_OPEN, depth_fault, depth_with};
+use crate::depth::{depth_fault, depth_with, is_too_deep};
 use c_automaton::programs_are_read_exactly;
-use c_faults::CFault;
+use c_faults::{CFault, programs_of_texts_have_few_variables};
 use c_lexer::Cursor;
 use c_program_reader::{Parsed, ProgramReader};
 use std::alloc::Global;
@@ -25,10 +26,11 @@ fn new_reader(alloc: Global) -> Result<Box<ProgramReader>, NoMemory>
 
 /// The parts of the program, where the tokens end; none if they only begin one.
 fn finish(alloc: Global, reader: Box<ProgramReader>) -> Result<Option<Box<Parsed>>, NoMemory>
+    requires { ForSome (finish (state_of reader.value)) (λ q. q.vars < 2 ^ 32) }
     ensures { IfOk result (λ found. finish (state_of reader.value)
         ≡ option_map (λ parts. routine_of parts.value) found) }
 {
-    match Box::into_inner(reader).finish()? {
+    match Box::into_inner(reader).finish() {
         Some(parts) => Ok(Some(Box::new(alloc, parts)?)),
         None => Ok(None),
     }
@@ -50,7 +52,7 @@ fn take_all(reader: &mut ProgramReader, text: &[u8]) -> Result<(), CFault>
     let mut cursor = Cursor::new(text);
     while let Some(found) = cursor.next_token() {
         depth = depth_with(depth, found.token);
-        if depth > MOST_OPEN {
+        if is_too_deep(depth) {
             return Err(CFault::TooDeep(found.at as u32));
         }
         if !reader.take(found.token)? {
@@ -74,6 +76,7 @@ pub fn parsed(alloc: Global, text: &[u8]) -> Result<Box<Parsed>, CFault>
     ensures within { IfErr result (IsPlaceWithin (length text.now)) }
 {
     programs_are_read_exactly();
+    programs_of_texts_have_few_variables();
     let mut reader = new_reader(alloc)?;
     take_all(&mut reader, text)?;
     match finish(alloc, reader)? {

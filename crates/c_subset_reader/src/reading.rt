@@ -60,9 +60,9 @@ fn fault_behind(head: u32, fault: CFault) -> CFault
 /// those of one program, which is what comes out. The faults are looked for in their order, each at its
 /// place in bytes from the start of the text, and only where none of those before it is there.
 /// `Syntax(0)` where the text doesn't begin with the line of the header; `Lex` where no token, blank or
-/// whole comment begins; `TooDeep` at the bracket with which more than 1,024 are open; `Syntax` at the
-/// first token with which no program goes on, or at the end of a text that only begins one; and `Unbound`
-/// at the first name that isn't declared. `NoMemory` alone may be answered at any time.
+/// whole comment begins; `TooDeep` at the bracket with which more than `MOST_OPEN_BRACKETS` are open; `Syntax`
+/// at the first token with which no program goes on, or at the end of a text that only begins one; and
+/// `Unbound` at the first name that isn't declared. `NoMemory` alone may be answered at any time.
 ///
 /// Time and memory grow with the length of the text alone.
 pub fn read_c(alloc: Global, c: &[u8]) -> Result<Prog, CFault>

@@ -34,6 +34,9 @@ pub const MOST_VALUE_BYTES: u64 = 67_108_864;
 /// The most bytes of a C text.
 pub const MOST_C_BYTES: u64 = 33_554_432;
 
+/// The most brackets `(` and `{` of a C text that are open at any place.
+pub const MOST_OPEN_BRACKETS: u32 = 1_024;
+
 /// The most work of a pipeline whose lists are computed: the rows of each source that it opens, and 1
 /// for each opening.
 pub const MOST_WORK: u64 = 1_000_000;

@@ -1,5 +1,5 @@
 use Rattle.std.proofs.Common.{◌≡◌, ◌≤◌, ◌-◌, List, length}
-use Rattle.c_faults.specs.Brackets.{most_open}
+use Rattle.pipe_limits.specs.declared.TheConstants.{MOST_OPEN_BRACKETS}
 use Rattle.c_tokens.specs.Cutting.{Token}
 use Rattle.c_subset_reader.specs.Taken.{HasTaken}
 use Rattle.c_subset_reader.specs.Depths.{IsDepthOf}
@@ -8,7 +8,7 @@ use Rattle.c_subset_reader.proofs.depth.depth_fault.Given as goal
 abbrev pub invariant-loop-found : goal.invariant-loop-found
 invariant-loop-found l = record {
   text : l.cursor.text.now ≡ l.fn.cursor.text.now;
-  small : l.depth ≤ most_open;
+  small : l.depth ≤ MOST_OPEN_BRACKETS;
   taken : (toks : List Token) → HasTaken (IsDepthOf l.fn.depth) l.fn.cursor toks → HasTaken (IsDepthOf l.depth) l.cursor toks;
 }
 

@@ -1,10 +1,19 @@
-use Rattle.std.proofs.Common.{Option, Box, Global, length, ap, ◌∙◌}
+use Rattle.std.proofs.Common.{Option, Box, Global, length, ap, arith, ◌∙◌, ◌≤◌}
 use Rattle.std.proofs.lemmas.Result.{err_from_is_err_and}
 use Rattle.std.specs.Prelude.{option_map}
 use Rattle.c_program_reader.specs.StateCopies.{routine_of, state_of}
 use Rattle.c_program_reader.specs.declared.reader.Parsed.{Parsed}
 use Rattle.c_subset_reader.proofs.ReachedSoFar.{reads_all, ends_early}
 use Rattle.c_subset_reader.proofs.parsing.parsed.Goals as goal
+
+pub finish-requires : goal.finish-requires
+finish-requires c = λ q e.
+    let toks = c.requires.tokens.0 in
+    let tokens = c.requires.tokens.1 in
+    let reached = (c.in_ok-take_all.ensures.takes toks tokens).1 in
+    let program = reads_all c.programs_are_read_exactly.ensures.reads (state_of c.take_all.new.reader) toks q reached e in
+    let few : q.vars ≤ length c.args.text.now = c.programs_of_texts_have_few_variables.ensures c.args.text.now toks q tokens program in
+    omega (arith, few, c.requires.short)
 
 pub returns-in_err-take_all-clause-parses : goal.returns-in_err-take_all-clause-parses
 returns-in_err-take_all-clause-parses c = λ toks h.

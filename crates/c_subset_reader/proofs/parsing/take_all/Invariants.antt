@@ -1,5 +1,5 @@
 use Rattle.std.proofs.Common.{◌≡◌, ◌≤◌, ◌-◌, List, length}
-use Rattle.c_faults.specs.Brackets.{most_open}
+use Rattle.pipe_limits.specs.declared.TheConstants.{MOST_OPEN_BRACKETS}
 use Rattle.c_program_reader.specs.StateCopies.{state_of}
 use Rattle.c_tokens.specs.Cutting.{Token, AreTokensOf}
 use Rattle.c_subset_reader.specs.Taken.{HasTaken}
@@ -9,7 +9,7 @@ use Rattle.c_subset_reader.proofs.parsing.take_all.Given as goal
 abbrev pub invariant-loop-found : goal.invariant-loop-found
 invariant-loop-found l = record {
   text : l.cursor.text.now ≡ l.text;
-  small : l.depth ≤ most_open;
+  small : l.depth ≤ MOST_OPEN_BRACKETS;
   taken : (toks : List Token) → AreTokensOf l.text toks → HasTaken (AreBothSoFar l.depth (state_of l.reader)) l.cursor toks;
 }
 
