@@ -9,3 +9,4 @@ pub mod SomeDepth
 pub mod SomeNames
 pub mod SomeProgram
 pub mod SomeAnswer
+pub mod OneRefusal
