@@ -1,7 +1,8 @@
 ghost use Rattle.std.specs.Prelude.{◌≡◌, ◌≤◌, length, IfErr};
 ghost use Rattle.job_files.specs.Sources.{boxed_routine};
+ghost use Rattle.strm_io.specs.Devices.{LeavesFiles};
 ghost use Rattle.job_steps.specs.CTexts.{LoadsC, ReadsC};
-ghost use Rattle.job_steps.specs.Loads.{HasFileCause};
+ghost use Rattle.job_steps.specs.Loads.{FailsWithCause};
 ghost use Rattle.job_steps.specs.Steps.{ComesOf};
 
 use crate::loading::load_file;
@@ -23,12 +24,8 @@ fn read_routine(alloc: Global, src: &[u8]) -> Result<Box<Prog>, Status>
 
 /// The program of the C text in the named file, or the status that there is else.
 pub fn loaded_c<F: Files>(alloc: Global, files: &mut F, name: &str) -> Result<Box<Prog>, Status>
-    ensures reads { ComesOf boxed_routine (LoadsC (F.holds files.old) name.now) result }
-    ensures cause { IfErr result (HasFileCause (F.misses files.old) (F.misses files.new)
-        (F.faults files.old) (F.faults files.new)) }
-    ensures holds { F.holds files.new ≡ F.holds files.old }
-    ensures misses { F.misses files.old ≤ F.misses files.new }
-    ensures faults { F.faults files.old ≤ F.faults files.new }
+    ensures reads { ComesOf boxed_routine (LoadsC (F.told files.old).holds name.now) result }
+    ensures leaves { LeavesFiles (F.told files.old) (F.told files.new) (FailsWithCause result) }
 {
     let src = load_file(alloc, files, name, MOST_C_BYTES)?;
     read_routine(alloc, src.as_slice())

@@ -1,6 +1,7 @@
 ghost use Rattle.std.specs.Prelude.{◌≡◌, ◌≤◌, IfErr, IfOk};
 ghost use Rattle.job_files.specs.Bytes.{bytes_of};
-ghost use Rattle.job_steps.specs.Loads.{HasFileCause, Loads};
+ghost use Rattle.strm_io.specs.Devices.{LeavesFiles};
+ghost use Rattle.job_steps.specs.Loads.{FailsWithCause, Loads};
 ghost use Rattle.job_steps.specs.Steps.{ComesOf};
 
 use status_lines::{Name, Status};
@@ -23,12 +24,8 @@ pub fn load_file<F: Files>(
     name: &str,
     limit: u64,
 ) -> Result<Vec<u8>, Status>
-    ensures loads { ComesOf bytes_of (Loads (F.holds files.old) name.now limit) result }
-    ensures cause { IfErr result (HasFileCause (F.misses files.old) (F.misses files.new)
-        (F.faults files.old) (F.faults files.new)) }
-    ensures holds { F.holds files.new ≡ F.holds files.old }
-    ensures misses { F.misses files.old ≤ F.misses files.new }
-    ensures faults { F.faults files.old ≤ F.faults files.new }
+    ensures loads { ComesOf bytes_of (Loads (F.told files.old).holds name.now limit) result }
+    ensures leaves { LeavesFiles (F.told files.old) (F.told files.new) (FailsWithCause result) }
 {
     match load(alloc, files, name, limit) {
         Ok(bytes) => Ok(bytes),

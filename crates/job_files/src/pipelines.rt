@@ -1,6 +1,7 @@
 ghost use Rattle.std.specs.Prelude.{◌≡◌, ◌≤◌, length, IfErr};
 ghost use Rattle.job_files.specs.Sources.{source_of};
-ghost use Rattle.job_steps.specs.Loads.{HasFileCause};
+ghost use Rattle.strm_io.specs.Devices.{LeavesFiles};
+ghost use Rattle.job_steps.specs.Loads.{FailsWithCause};
 ghost use Rattle.job_steps.specs.Pipelines.{LoadsPipeline, ReadsPipeline};
 ghost use Rattle.job_steps.specs.Steps.{ComesOf};
 
@@ -34,12 +35,8 @@ pub fn loaded_pipeline<F: Files>(
     files: &mut F,
     name: &str,
 ) -> Result<Box<Source>, Status>
-    ensures reads { ComesOf source_of (LoadsPipeline (F.holds files.old) name.now) result }
-    ensures cause { IfErr result (HasFileCause (F.misses files.old) (F.misses files.new)
-        (F.faults files.old) (F.faults files.new)) }
-    ensures holds { F.holds files.new ≡ F.holds files.old }
-    ensures misses { F.misses files.old ≤ F.misses files.new }
-    ensures faults { F.faults files.old ≤ F.faults files.new }
+    ensures reads { ComesOf source_of (LoadsPipeline (F.told files.old).holds name.now) result }
+    ensures leaves { LeavesFiles (F.told files.old) (F.told files.new) (FailsWithCause result) }
 {
     let src = load_file(alloc, files, name, MOST_BYTES)?;
     read_pipeline(alloc, src.as_slice())

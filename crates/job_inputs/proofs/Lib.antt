@@ -3,3 +3,4 @@ pub mod Absences
 pub mod Positions
 pub mod TakenInputs
 pub mod Bounds
+pub mod Untouched

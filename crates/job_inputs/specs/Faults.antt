@@ -1,6 +1,7 @@
 -- The fault that there may be before inputs are taken, and how it is told.
 use Rattle.std.specs.Prelude.{◌≡◌, ◌⊎◌, ℕ, List, [], ◌∷◌, Option, Some, None, Result, Ok, Err, if◌then◌else◌, not}
 use Rattle.job_steps.specs.Bindings.{is_among, is_bound}
+use Rattle.strm_io.specs.Devices.{FilesTold}
 use Rattle.job_steps.specs.Loads.{HasFileCause}
 use Rattle.status_lines.specs.declared.statuses.InputFault.{InputFault}
 use Rattle.status_lines.specs.declared.statuses.InputFault.TheVariants.{Unknown, Twice, Absent}
@@ -27,4 +28,4 @@ Tells fault (Err status) = (status ≡ NoMemory) ⊎ (fault ≡ Some status)
 
 -- the status isn't for a file
 abbrev pub IsForNoFile : Status → Type 0
-IsForNoFile status = (misses misses' faults faults' : ℕ) → HasFileCause misses misses' faults faults' status
+IsForNoFile status = (old new : FilesTold) → HasFileCause status old new

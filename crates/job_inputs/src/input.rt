@@ -4,8 +4,9 @@ ghost use Rattle.std.specs.Prelude.{◌≡◌, ◌≤◌, IfErr};
 ghost use Rattle.list_denotation.specs.declared.input.Input.{Input};
 ghost use Rattle.pipe_limits.specs.declared.TheConstants.{MOST_VALUE_BYTES};
 ghost use Rattle.value_files.specs.Numbers.{value_of};
+ghost use Rattle.strm_io.specs.Devices.{LeavesFiles};
 ghost use Rattle.job_steps.specs.Inputs.{ReadsArray, TakesKind, int_of};
-ghost use Rattle.job_steps.specs.Loads.{HasFileCause, Loads};
+ghost use Rattle.job_steps.specs.Loads.{FailsWithCause, Loads};
 ghost use Rattle.job_steps.specs.Steps.{ComesOf, Is, Then};
 ghost use Rattle.job_inputs.specs.Faults.{IsForNoFile};
 ghost use Rattle.job_inputs.specs.Names.{name_of};
@@ -52,13 +53,9 @@ fn loaded_array<F: Files>(
     called: Called<'_>,
     file: &str,
 ) -> Result<Input, Status>
-    ensures takes { ComesOf (λ (i : Input). i) (Then (Loads (F.holds files.old) file.now MOST_VALUE_BYTES)
+    ensures takes { ComesOf (λ (i : Input). i) (Then (Loads (F.told files.old).holds file.now MOST_VALUE_BYTES)
         (ReadsArray (name_of called.entry))) result }
-    ensures cause { IfErr result (HasFileCause (F.misses files.old) (F.misses files.new)
-        (F.faults files.old) (F.faults files.new)) }
-    ensures holds { F.holds files.new ≡ F.holds files.old }
-    ensures misses { F.misses files.old ≤ F.misses files.new }
-    ensures faults { F.faults files.old ≤ F.faults files.new }
+    ensures leaves { LeavesFiles (F.told files.old) (F.told files.new) (FailsWithCause result) }
 {
     let bytes = load_file(alloc, files, file, MOST_VALUE_BYTES)?;
     array(alloc, called, &bytes)
@@ -73,12 +70,8 @@ pub fn take_input<F: Files>(
     given: &str,
 ) -> Result<Input, Status>
     ensures takes { ComesOf (λ (i : Input). i)
-        (TakesKind (F.holds files.old) (name_of called.entry) given.now kind) result }
-    ensures cause { IfErr result (HasFileCause (F.misses files.old) (F.misses files.new)
-        (F.faults files.old) (F.faults files.new)) }
-    ensures holds { F.holds files.new ≡ F.holds files.old }
-    ensures misses { F.misses files.old ≤ F.misses files.new }
-    ensures faults { F.faults files.old ≤ F.faults files.new }
+        (TakesKind (F.told files.old).holds (name_of called.entry) given.now kind) result }
+    ensures leaves { LeavesFiles (F.told files.old) (F.told files.new) (FailsWithCause result) }
 {
     match kind {
         InputKind::Int => int(alloc, called, given),

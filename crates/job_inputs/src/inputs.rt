@@ -3,9 +3,10 @@
 ghost use Rattle.std.specs.Prelude.{◌≡◌, ◌≤◌, List, Err, [], length, IfErr, OnOk};
 ghost use Rattle.command_words.specs.Commands.{texts_of};
 ghost use Rattle.list_denotation.specs.declared.input.Input.{Input};
+ghost use Rattle.strm_io.specs.Devices.{LeavesFiles};
 ghost use Rattle.job_steps.specs.Bindings.{placed};
 ghost use Rattle.job_steps.specs.Inputs.{BindsInputs, PlacesInputs, TakesInputs};
-ghost use Rattle.job_steps.specs.Loads.{HasFileCause};
+ghost use Rattle.job_steps.specs.Loads.{FailsWithCause};
 ghost use Rattle.job_steps.specs.Steps.{ComesOf};
 ghost use Rattle.job_inputs.specs.Faults.{IsForNoFile};
 ghost use Rattle.job_inputs.specs.Givens.{bound_givens, placed_givens};
@@ -30,13 +31,9 @@ fn take_bound<F: Files>(
     kinds: &InputKinds,
 ) -> Result<Inputs, Status>
     requires { length names.now ≡ length kinds.now }
-    ensures takes { ComesOf (λ (is : List Input). is) (TakesInputs (F.holds files.old) []
+    ensures takes { ComesOf (λ (is : List Input). is) (TakesInputs (F.told files.old).holds []
         (bound_givens (texts_of words.now) (names_of names.now) kinds.now)) result }
-    ensures cause { IfErr result (HasFileCause (F.misses files.old) (F.misses files.new)
-        (F.faults files.old) (F.faults files.new)) }
-    ensures holds { F.holds files.new ≡ F.holds files.old }
-    ensures misses { F.misses files.old ≤ F.misses files.new }
-    ensures faults { F.faults files.old ≤ F.faults files.new }
+    ensures leaves { LeavesFiles (F.told files.old) (F.told files.new) (FailsWithCause result) }
 {
     let mut taken = List::new(alloc);
     for i in 0..kinds.len() {
@@ -56,13 +53,9 @@ fn take_placed<F: Files>(
     kinds: &InputKinds,
 ) -> Result<Inputs, Status>
     requires { length values.now ≡ length kinds.now }
-    ensures takes { ComesOf (λ (is : List Input). is) (TakesInputs (F.holds files.old) []
+    ensures takes { ComesOf (λ (is : List Input). is) (TakesInputs (F.told files.old).holds []
         (placed_givens 0 (texts_of values.now) kinds.now)) result }
-    ensures cause { IfErr result (HasFileCause (F.misses files.old) (F.misses files.new)
-        (F.faults files.old) (F.faults files.new)) }
-    ensures holds { F.holds files.new ≡ F.holds files.old }
-    ensures misses { F.misses files.old ≤ F.misses files.new }
-    ensures faults { F.faults files.old ≤ F.faults files.new }
+    ensures leaves { LeavesFiles (F.told files.old) (F.told files.new) (FailsWithCause result) }
 {
     let mut taken = List::new(alloc);
     for i in 0..kinds.len() {
@@ -107,12 +100,8 @@ pub fn bound_inputs<F: Files>(
 ) -> Result<Inputs, Status>
     requires { length names.now ≡ length kinds.now }
     ensures inputs { ComesOf (λ (is : List Input). is)
-        (BindsInputs (F.holds files.old) (texts_of words.now) (names_of names.now) kinds.now) result }
-    ensures cause { IfErr result (HasFileCause (F.misses files.old) (F.misses files.new)
-        (F.faults files.old) (F.faults files.new)) }
-    ensures holds { F.holds files.new ≡ F.holds files.old }
-    ensures misses { F.misses files.old ≤ F.misses files.new }
-    ensures faults { F.faults files.old ≤ F.faults files.new }
+        (BindsInputs (F.told files.old).holds (texts_of words.now) (names_of names.now) kinds.now) result }
+    ensures leaves { LeavesFiles (F.told files.old) (F.told files.new) (FailsWithCause result) }
 {
     check_words(alloc, words, names)?;
     check_names(alloc, words, names)?;
@@ -130,12 +119,8 @@ pub fn placed_inputs<F: Files>(
     kinds: &InputKinds,
 ) -> Result<Inputs, Status>
     ensures inputs { ComesOf (λ (is : List Input). is)
-        (PlacesInputs (F.holds files.old) (texts_of values.now) kinds.now) result }
-    ensures cause { IfErr result (HasFileCause (F.misses files.old) (F.misses files.new)
-        (F.faults files.old) (F.faults files.new)) }
-    ensures holds { F.holds files.new ≡ F.holds files.old }
-    ensures misses { F.misses files.old ≤ F.misses files.new }
-    ensures faults { F.faults files.old ≤ F.faults files.new }
+        (PlacesInputs (F.told files.old).holds (texts_of values.now) kinds.now) result }
+    ensures leaves { LeavesFiles (F.told files.old) (F.told files.new) (FailsWithCause result) }
 {
     check_count(values, kinds)?;
     take_placed(alloc, files, values, kinds)

@@ -1,7 +1,8 @@
 -- What the program answers: each status, and what was written.
-use Rattle.std.specs.Prelude.{◌≡◌, ◌⊎◌, ℕ, List, Option, Result, Ok, Err}
+use Rattle.std.specs.Prelude.{◌≡◌, ◌≤◌, ◌⊎◌, ℕ, List, Option, Result, Ok, Err}
 use Rattle.strm_io.specs.Appending.{AppendsPrefix}
 use Rattle.strm_io.specs.Counts.{Rose}
+use Rattle.strm_io.specs.Devices.{FilesTold, LeavesFiles}
 use Rattle.strm_io.specs.Store.{Store}
 use Rattle.strm_io.specs.Writing.{Appends}
 use Rattle.status_lines.specs.declared.statuses.Status.{Status}
@@ -34,11 +35,16 @@ abbrev pub Answers : Option Store → List (List ℕ) → Option (List ℕ) → 
 Answers store words = AnswersSteps (Prepares store words)
 
 -- a status that a device causes comes only where its count rose
-abbrev pub HasCause : (misses misses' faults faults' out_faults out_faults' : ℕ) → Status → Type 0
-HasCause misses misses' faults faults' out_faults out_faults' (Missing name) = Rose misses misses'
-HasCause misses misses' faults faults' out_faults out_faults' (ReadFault name) = Rose faults faults'
-HasCause misses misses' faults faults' out_faults out_faults' WriteFault = Rose out_faults out_faults'
-HasCause misses misses' faults faults' out_faults out_faults' status = Unit {0}
+abbrev pub HasCause : Status → (out_faults out_faults' : ℕ) → FilesTold → FilesTold → Type 0
+HasCause (Missing name) out_faults out_faults' old new = Rose old.misses new.misses
+HasCause (ReadFault name) out_faults out_faults' old new = Rose old.faults new.faults
+HasCause WriteFault out_faults out_faults' old new = Rose out_faults out_faults'
+HasCause status out_faults out_faults' old new = Unit {0}
+
+-- what a command leaves of its devices: what the store holds stays, no count falls, and the status has its cause
+pub record LeavesDevices (old new : FilesTold) (out_faults out_faults' : ℕ) (status : Status) : Type 0 where
+  pub files : LeavesFiles old new (HasCause status out_faults out_faults')
+  pub write_faults : out_faults ≤ out_faults'
 
 -- ---- when a status comes
 

@@ -1,6 +1,7 @@
 -- What comes of loading a file.
 use Rattle.std.specs.Prelude.{◌≡◌, ℕ, ◌<◌, ◌≤◌, List, length, Option, Some, None, Result, Ok, Err, IsSomeAnd}
 use Rattle.strm_io.specs.Counts.{Rose}
+use Rattle.strm_io.specs.Devices.{FilesTold}
 use Rattle.strm_io.specs.Store.{Store, held}
 use Rattle.status_lines.specs.declared.statuses.Status.{Status}
 use Rattle.status_lines.specs.declared.statuses.Status.TheVariants.{Missing, ReadFault, TooLong, WriteFault}
@@ -24,8 +25,12 @@ Loads store name limit (Err (ReadFault n)) = n ≡ name
 Loads store name limit (Err status) = ⊥
 
 -- a step that reads files fails for them only where their count rose, and never for what is written
-abbrev pub HasFileCause : (misses misses' faults faults' : ℕ) → Status → Type 0
-HasFileCause misses misses' faults faults' (Missing name) = Rose misses misses'
-HasFileCause misses misses' faults faults' (ReadFault name) = Rose faults faults'
-HasFileCause misses misses' faults faults' WriteFault = ⊥
-HasFileCause misses misses' faults faults' status = Unit {0}
+abbrev pub HasFileCause : Status → FilesTold → FilesTold → Type 0
+HasFileCause (Missing name) old new = Rose old.misses new.misses
+HasFileCause (ReadFault name) old new = Rose old.faults new.faults
+HasFileCause WriteFault old new = ⊥
+HasFileCause status old new = Unit {0}
+
+abbrev pub FailsWithCause : {A : Type 0} → Result A Status → FilesTold → FilesTold → Type 0
+FailsWithCause (Ok x) old new = Unit {0}
+FailsWithCause (Err status) old new = HasFileCause status old new

@@ -1,5 +1,6 @@
 -- What the host's devices are seen as. They tell no bytes.
-use Rattle.std.specs.Prelude.{◌≡◌, ℕ, Bool, true, false}
+use Rattle.std.specs.Prelude.{◌≡◌, ℕ, Bool, true, false, None}
+use Rattle.strm_io.specs.Devices.{FilesTold}
 use Rattle.strm_io.specs.Counts.{raised}
 use Rattle.strm_io.specs.declared.reading.Opened.{Opened}
 use Rattle.strm_io.specs.declared.reading.Opened.TheVariants.{Found, Missing, Failed}
@@ -11,6 +12,10 @@ pub record HostFilesState : Type 0 where
   pub is_open : Bool
   pub faults : ℕ
   pub misses : ℕ
+
+-- what they tell
+abbrev pub files_told : HostFilesState → FilesTold
+files_told s = record { holds = None; left = None; misses = s.misses; faults = s.faults }
 
 -- the count of a sink
 pub record HostSinkState : Type 0 where

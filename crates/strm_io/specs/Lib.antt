@@ -1,5 +1,6 @@
 pub mod Counts
 pub mod Store
+pub mod Devices
 pub mod Reading
 pub mod Writing
 pub mod Loading

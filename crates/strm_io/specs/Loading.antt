@@ -3,6 +3,7 @@ use Rattle.std.specs.Prelude.{◌≡◌, ℕ, ◌<◌, ◌≤◌, List, length, 
 use Rattle.std.specs.declared.vec.Vec.{Vec}
 use Rattle.std.specs.declared.alloc.Global.{Global}
 use Rattle.strm_io.specs.Counts.{Rose}
+use Rattle.strm_io.specs.Devices.{FilesTold}
 use Rattle.strm_io.specs.Store.{Store, held}
 use Rattle.strm_io.specs.declared.loading.LoadFault.{LoadFault}
 use Rattle.strm_io.specs.declared.loading.LoadFault.TheVariants.{Missing, TooLong, Read, NoMemory}
@@ -21,12 +22,12 @@ LoadsFile store name limit (Err Read) = Unit {0}
 LoadsFile store name limit (Err NoMemory) = Unit {0}
 
 -- a file is missing only where the misses rose, and isn't read only where the faults rose
-abbrev pub LoadHasCause : ℕ → ℕ → ℕ → ℕ → Result (Vec ℕ Global) LoadFault → Type 0
-LoadHasCause misses misses' faults faults' (Ok bytes) = Unit {0}
-LoadHasCause misses misses' faults faults' (Err Missing) = Rose misses misses'
-LoadHasCause misses misses' faults faults' (Err TooLong) = Unit {0}
-LoadHasCause misses misses' faults faults' (Err Read) = Rose faults faults'
-LoadHasCause misses misses' faults faults' (Err NoMemory) = Unit {0}
+abbrev pub LoadHasCause : Result (Vec ℕ Global) LoadFault → FilesTold → FilesTold → Type 0
+LoadHasCause (Ok bytes) old new = Unit {0}
+LoadHasCause (Err Missing) old new = Rose old.misses new.misses
+LoadHasCause (Err TooLong) old new = Unit {0}
+LoadHasCause (Err Read) old new = Rose old.faults new.faults
+LoadHasCause (Err NoMemory) old new = Unit {0}
 
 -- the rest of the open file is what was left of it, at most the limit of it
 abbrev pub LoadsRest : Option (List ℕ) → ℕ → Result (Vec ℕ Global) LoadFault → Type 0

@@ -2,6 +2,7 @@
 -- `None`, the device doesn't tell it, and nothing is said of it.
 use Rattle.std.specs.Prelude.{◌≡◌, ℕ, ◌<◌, ◌≤◌, List, [], length, take, drop, Option, Some, None, IsSome}
 use Rattle.strm_io.specs.Counts.{Rose, raised}
+use Rattle.strm_io.specs.Devices.{FilesTold}
 use Rattle.strm_io.specs.Store.{Store, held}
 use Rattle.strm_io.specs.declared.reading.Opened.{Opened}
 use Rattle.strm_io.specs.declared.reading.Opened.TheVariants.{Found, Missing, Failed}
@@ -22,10 +23,10 @@ OpensFile (Some store) name left Missing = (held store name ≡ None) × IsNothi
 OpensFile store name left Failed = IsNothingLeft left
 
 -- an opening misses a file only where the misses rose, and fails only where the faults rose
-abbrev pub OpeningHasCause : ℕ → ℕ → ℕ → ℕ → Opened → Type 0
-OpeningHasCause misses misses' faults faults' Found = Unit {0}
-OpeningHasCause misses misses' faults faults' Missing = Rose misses misses'
-OpeningHasCause misses misses' faults faults' Failed = Rose faults faults'
+abbrev pub OpeningHasCause : Opened → FilesTold → FilesTold → Type 0
+OpeningHasCause Found old new = Unit {0}
+OpeningHasCause Missing old new = Rose old.misses new.misses
+OpeningHasCause Failed old new = Rose old.faults new.faults
 
 -- these n bytes were a prefix of what was left, and are taken from it
 abbrev pub TakesPrefix : Option (List ℕ) → Option (List ℕ) → ℕ → List ℕ → Type 0
@@ -41,10 +42,10 @@ BringsPiece left left' buffer AtEnd = IsNothingLeft left × (left' ≡ left)
 BringsPiece left left' buffer Broken = IsNothingLeft left'
 
 -- a piece fails only where the faults rose
-abbrev pub PieceHasCause : ℕ → ℕ → Piece → Type 0
-PieceHasCause faults faults' (Got n) = Unit {0}
-PieceHasCause faults faults' AtEnd = Unit {0}
-PieceHasCause faults faults' Broken = Rose faults faults'
+abbrev pub PieceHasCause : Piece → FilesTold → FilesTold → Type 0
+PieceHasCause (Got n) old new = Unit {0}
+PieceHasCause AtEnd old new = Unit {0}
+PieceHasCause Broken old new = Rose old.faults new.faults
 
 -- an opening raises the count of its own answer by one, and no other
 abbrev pub CountsOpening : ℕ → ℕ → ℕ → ℕ → Opened → Type 0

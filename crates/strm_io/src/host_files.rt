@@ -1,6 +1,7 @@
 ghost use Rattle.std.specs.Prelude.{◌≡◌, ◌<◌, ◌≤◌, length, None, false};
 ghost use Rattle.strm_io.specs.Reading.{OpensFile, OpeningHasCause, BringsPiece, PieceHasCause};
-ghost use Rattle.strm_io.specs.HostStates.{after_opening, after_piece, ReadsOpenFile};
+ghost use Rattle.strm_io.specs.Devices.{LeavesFiles};
+ghost use Rattle.strm_io.specs.HostStates.{after_opening, after_piece, files_told, ReadsOpenFile};
 
 use crate::reading::{Files, Opened, Piece};
 use std::fs::File;
@@ -51,21 +52,12 @@ impl HostFiles {
 impl Files for HostFiles {
     ghost use Rattle.std.specs.Prelude.{None};
 
-    ghost holds = { λ _. None };
-
-    ghost left = { λ _. None };
-
-    ghost faults = { λ s. s.faults };
-
-    ghost misses = { λ s. s.misses };
+    ghost told = { files_told };
 
     /// A file is missing where the system says that it isn't found. Each other error is a fault.
     fn open_file(&mut self, name: &str) -> Opened
         ensures opens { OpensFile None name.now None result }
-        ensures cause { OpeningHasCause self.old.misses self.new.misses
-            self.old.faults self.new.faults result }
-        ensures misses { self.old.misses ≤ self.new.misses }
-        ensures faults { self.old.faults ≤ self.new.faults }
+        ensures leaves { LeavesFiles (files_told self.old) (files_told self.new) (OpeningHasCause result) }
         ensures after { self.new ≡ after_opening self.old result }
     {
         match File::open(&self.rt, name) {
@@ -90,9 +82,8 @@ impl Files for HostFiles {
     fn piece(&mut self, buf: &mut [u8]) -> Piece
         requires { 0 < length buf.old }
         ensures brings { BringsPiece None None buf.new result }
-        ensures cause { PieceHasCause self.old.faults self.new.faults result }
+        ensures leaves { LeavesFiles (files_told self.old) (files_told self.new) (PieceHasCause result) }
         ensures misses { self.new.misses ≡ self.old.misses }
-        ensures faults { self.old.faults ≤ self.new.faults }
         ensures after { self.new ≡ after_piece self.old result }
         ensures reads { ReadsOpenFile self.old.is_open result }
     {

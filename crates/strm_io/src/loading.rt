@@ -1,4 +1,4 @@
-ghost use Rattle.std.specs.Prelude.{◌≡◌, ◌≤◌};
+ghost use Rattle.strm_io.specs.Devices.{LeavesFiles};
 ghost use Rattle.strm_io.specs.Loading.{LoadsFile, LoadsRest, LoadHasCause};
 
 use crate::reading::{Files, Opened, Piece};
@@ -28,12 +28,8 @@ pub fn load<F: Files>(
     name: &str,
     limit: u64,
 ) -> Result<Vec<u8>, LoadFault>
-    ensures loads { LoadsFile (F.holds files.old) name.now limit result }
-    ensures cause { LoadHasCause (F.misses files.old) (F.misses files.new)
-        (F.faults files.old) (F.faults files.new) result }
-    ensures holds { F.holds files.new ≡ F.holds files.old }
-    ensures misses { F.misses files.old ≤ F.misses files.new }
-    ensures faults { F.faults files.old ≤ F.faults files.new }
+    ensures loads { LoadsFile (F.told files.old).holds name.now limit result }
+    ensures leaves { LeavesFiles (F.told files.old) (F.told files.new) (LoadHasCause result) }
 {
     match files.open_file(name) {
         Opened::Found => load_rest(alloc, files, limit),
@@ -44,12 +40,8 @@ pub fn load<F: Files>(
 
 // What is left of the open file, at most `limit` bytes.
 fn load_rest<F: Files>(alloc: Global, files: &mut F, limit: u64) -> Result<Vec<u8>, LoadFault>
-    ensures loads { LoadsRest (F.left files.old) limit result }
-    ensures cause { LoadHasCause (F.misses files.old) (F.misses files.new)
-        (F.faults files.old) (F.faults files.new) result }
-    ensures holds { F.holds files.new ≡ F.holds files.old }
-    ensures misses { F.misses files.old ≤ F.misses files.new }
-    ensures faults { F.faults files.old ≤ F.faults files.new }
+    ensures loads { LoadsRest (F.told files.old).left limit result }
+    ensures leaves { LeavesFiles (F.told files.old) (F.told files.new) (LoadHasCause result) }
 {
     let mut bytes = Vec::new(alloc);
     let mut buffer = [0u8; 8_192];

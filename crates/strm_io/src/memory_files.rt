@@ -1,5 +1,6 @@
 ghost use Rattle.std.specs.Prelude.{◌≡◌, ◌≢◌, ◌<◌, ◌≤◌, [], OnOk, OnErr, IfSome, Some, length};
-ghost use Rattle.strm_io.specs.MemoryStates.{with_file};
+ghost use Rattle.strm_io.specs.Devices.{LeavesFiles};
+ghost use Rattle.strm_io.specs.MemoryStates.{files_told, with_file};
 ghost use Rattle.strm_io.specs.MemoryFiles.{GivesMost, found_bytes, store_of};
 ghost use Rattle.strm_io.specs.Reading.{BringsPiece, CountsOpening, OpeningHasCause, OpensFile};
 ghost use Rattle.strm_io.specs.Reading.{PieceHasCause};
@@ -92,22 +93,12 @@ fn find(entries: &[Entry], name: &str) -> Option<usize>
 impl Files for MemFiles {
     ghost use Rattle.std.specs.Prelude.{Some};
 
-    ghost holds = { λ s. Some s.files };
-
-    ghost left = { λ s. Some s.left };
-
-    ghost faults = { λ s. s.faults };
-
-    ghost misses = { λ s. s.misses };
+    ghost told = { files_told };
 
     /// It never fails, and counts each name that it doesn't hold. It takes no memory.
     fn open_file(&mut self, name: &str) -> Opened
         ensures opens { OpensFile (Some self.old.files) name.now (Some self.new.left) result }
-        ensures cause { OpeningHasCause self.old.misses self.new.misses
-            self.old.faults self.new.faults result }
-        ensures holds { self.new.files ≡ self.old.files }
-        ensures misses { self.old.misses ≤ self.new.misses }
-        ensures faults { self.new.faults ≡ self.old.faults }
+        ensures leaves { LeavesFiles (files_told self.old) (files_told self.new) (OpeningHasCause result) }
         ensures counts { CountsOpening self.old.misses self.new.misses
             self.old.faults self.new.faults result }
         ensures succeeds { result ≢ Opened.Failed }
@@ -128,8 +119,7 @@ impl Files for MemFiles {
     fn piece(&mut self, buf: &mut [u8]) -> Piece
         requires { 0 < length buf.old }
         ensures brings { BringsPiece (Some self.old.left) (Some self.new.left) buf.new result }
-        ensures cause { PieceHasCause self.old.faults self.new.faults result }
-        ensures holds { self.new.files ≡ self.old.files }
+        ensures leaves { LeavesFiles (files_told self.old) (files_told self.new) (PieceHasCause result) }
         ensures misses { self.new.misses ≡ self.old.misses }
         ensures faults { self.new.faults ≡ self.old.faults }
         ensures gives { GivesMost (length self.old.left) (length buf.old) result }

@@ -1,5 +1,5 @@
-ghost use Rattle.std.specs.Prelude.{◌≡◌, ℕ, ◌<◌, ◌≤◌, List, Option, length};
-ghost use Rattle.strm_io.specs.Store.{Store};
+ghost use Rattle.std.specs.Prelude.{◌<◌, length};
+ghost use Rattle.strm_io.specs.Devices.{FilesTold, LeavesFiles};
 ghost use Rattle.strm_io.specs.Reading.{OpensFile, OpeningHasCause, BringsPiece, PieceHasCause};
 
 /// The answer of `Files::open_file`.
@@ -26,17 +26,11 @@ pub enum Piece {
 
 /// Files that are read one at a time, each from its start to its end.
 ///
-/// Contracts see what the store holds (`holds`) and what is still to be read of the open file
-/// (`left`), both where the device tells them, and two counts that never fall: of the calls
-/// that failed (`faults`) and of those that found no file (`misses`).
+/// Contracts see what the files tell of themselves (`told`): what the store holds and what is still to be read of
+/// the open file, both where the device tells them, and two counts that never fall: of the calls that failed and of
+/// those that found no file.
 pub trait Files {
-    ghost holds: { Self → Option Store };
-
-    ghost left: { Self → Option (List ℕ) };
-
-    ghost faults: { Self → ℕ };
-
-    ghost misses: { Self → ℕ };
+    ghost told: { Self → FilesTold };
 
     /// Makes the named file the one that is read, from its first byte.
     ///
@@ -44,12 +38,8 @@ pub trait Files {
     /// comes exactly where no such name is held and the answer isn't `Failed`. `Failed` comes
     /// only where the faults rose in this call.
     fn open_file(&mut self, name: &str) -> Opened
-        ensures opens { OpensFile (holds self.old) name.now (left self.new) result }
-        ensures cause { OpeningHasCause (misses self.old) (misses self.new)
-            (faults self.old) (faults self.new) result }
-        ensures holds { holds self.new ≡ holds self.old }
-        ensures misses { misses self.old ≤ misses self.new }
-        ensures faults { faults self.old ≤ faults self.new };
+        ensures opens { OpensFile (told self.old).holds name.now (told self.new).left result }
+        ensures leaves { LeavesFiles (told self.old) (told self.new) (OpeningHasCause result) };
 
     /// Takes the next bytes of the open file into the start of `buf`, which isn't empty.
     ///
@@ -57,9 +47,6 @@ pub trait Files {
     /// rose in this call.
     fn piece(&mut self, buf: &mut [u8]) -> Piece
         requires { 0 < length buf.old }
-        ensures brings { BringsPiece (left self.old) (left self.new) buf.new result }
-        ensures cause { PieceHasCause (faults self.old) (faults self.new) result }
-        ensures holds { holds self.new ≡ holds self.old }
-        ensures misses { misses self.old ≤ misses self.new }
-        ensures faults { faults self.old ≤ faults self.new };
+        ensures brings { BringsPiece (told self.old).left (told self.new).left buf.new result }
+        ensures leaves { LeavesFiles (told self.old) (told self.new) (PieceHasCause result) };
 }

@@ -1,7 +1,8 @@
 -- What a job answers, from what its steps and its work gave.
-use Rattle.std.proofs.Common.{◌≡◌, ◌≤◌, inl, inr, ℕ, List, Option, Result, Ok, Err, refl, arith}
+use Rattle.std.proofs.Common.{◌≡◌, ◌≤◌, ◌∙◌, inl, inr, ℕ, List, Option, Result, Ok, Err, refl, arith}
 use Rattle.strm_io.specs.Counts.{Rose}
-use Rattle.job_steps.specs.Answers.{AnswersSteps, IsDone, HasCause}
+use Rattle.strm_io.specs.Devices.{FilesTold, LeavesFiles}
+use Rattle.job_steps.specs.Answers.{AnswersSteps, IsDone, HasCause, LeavesDevices}
 use Rattle.job_steps.specs.Loads.{HasFileCause}
 use Rattle.job_steps.specs.Steps.{ComesOf, Is, Then}
 use Rattle.job_steps.specs.Works.{Work, Ends}
@@ -13,10 +14,10 @@ use Rattle.job_work.specs.Working.{Does}
 
 module _ {X A : Type 0} (copy : X → A) (first : Result A Status → Type 0) (next : A → Result Work Status → Type 0) (out out' : Option (List ℕ)) where
   -- the first step fails
-  pub stopped : (misses misses' faults faults' : ℕ) (s : Status) → ComesOf copy first (Err s) → HasFileCause misses misses' faults faults' s → out' ≡ out → AnswersSteps (Then first next) out out' s
-  stopped misses misses' faults faults' NoMemory h cause e = e
-  stopped misses misses' faults faults' WriteFault h cause e = absurd cause
-  stopped misses misses' faults faults' s h cause e = inl (inl h, e)
+  pub stopped : (old new : FilesTold) (s : Status) → ComesOf copy first (Err s) → HasFileCause s old new → out' ≡ out → AnswersSteps (Then first next) out out' s
+  stopped old new NoMemory h cause e = e
+  stopped old new WriteFault h cause e = absurd cause
+  stopped old new s h cause e = inl (inl h, e)
 
   later : (x : X) → first (Ok (copy x)) → (holds : Status → List ℕ → Type 0) → IsDone (next (copy x)) holds → IsDone (Then first next) holds
   later x h holds d =
@@ -39,29 +40,56 @@ worked work out out' faults faults' (ReadFault name) h = absurd h
 worked work out out' faults faults' s h =
     inr (record { work = work; passes = refl; end = s; text = h.0; ends = h.1.0; holds_of_it = (refl, h.1.1) })
 
--- ---- causes
-
-pub file_cause : (misses misses' faults faults' out_faults out_faults' : ℕ) (s : Status) → HasFileCause misses misses' faults faults' s → HasCause misses misses' faults faults' out_faults out_faults' s
-file_cause misses misses' faults faults' out_faults out_faults' (Missing name) h = h
-file_cause misses misses' faults faults' out_faults out_faults' (ReadFault name) h = h
-file_cause misses misses' faults faults' out_faults out_faults' WriteFault h = absurd h
-file_cause misses misses' faults faults' out_faults out_faults' s h = tt
-
-pub work_cause : (ends : Status → List ℕ → Type 0) (out out' : Option (List ℕ)) (misses misses' faults faults' out_faults out_faults' : ℕ) (s : Status) → Does ends out out' out_faults out_faults' s → HasCause misses misses' faults faults' out_faults out_faults' s
-work_cause ends out out' misses misses' faults faults' out_faults out_faults' (Missing name) h = absurd h
-work_cause ends out out' misses misses' faults faults' out_faults out_faults' (ReadFault name) h = absurd h
-work_cause ends out out' misses misses' faults faults' out_faults out_faults' WriteFault h = h.1
-work_cause ends out out' misses misses' faults faults' out_faults out_faults' s h = tt
+-- ---- devices
 
 rose_before : (a b c : ℕ) → a ≤ b → Rose b c → Rose a c
 rose_before a b c le (inl h) = inl (omega (arith, le, h))
 rose_before a b c le (inr h) = inr h
 
--- what rose in a part of a call rose in it
-pub cause_before : (misses misses' misses'' faults faults' faults'' out_faults out_faults' : ℕ) (s : Status) → misses ≤ misses' → faults ≤ faults' → HasCause misses' misses'' faults' faults'' out_faults out_faults' s → HasCause misses misses'' faults faults'' out_faults out_faults' s
-cause_before misses misses' misses'' faults faults' faults'' out_faults out_faults' (Missing name) m f h = rose_before misses misses' misses'' m h
-cause_before misses misses' misses'' faults faults' faults'' out_faults out_faults' (ReadFault name) m f h = rose_before faults faults' faults'' f h
-cause_before misses misses' misses'' faults faults' faults'' out_faults out_faults' WriteFault m f h = h
-cause_before misses misses' misses'' faults faults' faults'' out_faults out_faults' s m f h = tt
+module _ (out_faults out_faults' : ℕ) where
+  file_cause : (s : Status) (old new : FilesTold) → HasFileCause s old new → HasCause s out_faults out_faults' old new
+  file_cause (Missing name) old new h = h
+  file_cause (ReadFault name) old new h = h
+  file_cause WriteFault old new h = absurd h
+  file_cause s old new h = tt
 
-pub ruleset causes = (file_cause, work_cause, cause_before)
+  work_cause : (ends : Status → List ℕ → Type 0) (out out' : Option (List ℕ)) (s : Status) (old : FilesTold) → Does ends out out' out_faults out_faults' s → HasCause s out_faults out_faults' old old
+  work_cause ends out out' (Missing name) old h = absurd h
+  work_cause ends out out' (ReadFault name) old h = absurd h
+  work_cause ends out out' WriteFault old h = h.1
+  work_cause ends out out' s old h = tt
+
+  -- what rose in a part of a call rose in it
+  cause_before : (s : Status) (old mid new : FilesTold) → old.misses ≤ mid.misses → old.faults ≤ mid.faults → HasCause s out_faults out_faults' mid new → HasCause s out_faults out_faults' old new
+  cause_before (Missing name) old mid new m f h = rose_before old.misses mid.misses new.misses m h
+  cause_before (ReadFault name) old mid new m f h = rose_before old.faults mid.faults new.faults f h
+  cause_before WriteFault old mid new m f h = h
+  cause_before s old mid new m f h = tt
+
+-- a step that fails leaves the output alone
+pub step_leaves : (out_faults : ℕ) (s : Status) (old new : FilesTold) → LeavesFiles old new (HasFileCause s) → LeavesDevices old new out_faults out_faults s
+step_leaves out_faults s old new h = record {
+  files = record { holds = h.holds; misses = h.misses; faults = h.faults; cause = file_cause out_faults out_faults s old new h.cause };
+  write_faults = omega arith;
+}
+
+-- work leaves the files alone
+pub work_leaves : (ends : Status → List ℕ → Type 0) (out out' : Option (List ℕ)) (out_faults out_faults' : ℕ) (s : Status) (old : FilesTold) → Does ends out out' out_faults out_faults' s → out_faults ≤ out_faults' → LeavesDevices old old out_faults out_faults' s
+work_leaves ends out out' out_faults out_faults' s old h le = record {
+  files = record { holds = refl; misses = omega arith; faults = omega arith; cause = work_cause out_faults out_faults' ends out out' s old h };
+  write_faults = le;
+}
+
+-- a step that reads files, and then the rest
+pub leaves_after : (out_faults out_faults' : ℕ) (s : Status) (has_cause : FilesTold → FilesTold → Type 0) (old mid new : FilesTold) → LeavesFiles old mid has_cause → LeavesDevices mid new out_faults out_faults' s → LeavesDevices old new out_faults out_faults' s
+leaves_after out_faults out_faults' s has_cause old mid new h k = record {
+  files = record {
+    holds = k.files.holds ∙ h.holds;
+    misses = omega (arith, h.misses, k.files.misses);
+    faults = omega (arith, h.faults, k.files.faults);
+    cause = cause_before out_faults out_faults' s old mid new h.misses h.faults k.files.cause;
+  };
+  write_faults = k.write_faults;
+}
+
+pub ruleset devices = (step_leaves, work_leaves, leaves_after)

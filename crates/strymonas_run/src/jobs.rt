@@ -4,7 +4,7 @@ ghost use Rattle.std.specs.Prelude.{◌≡◌, ◌≤◌, Some, Ok, drop};
 ghost use Rattle.command_words.specs.declared.jobs.TheConstants.{MOST_BENCH_ITEMS};
 ghost use Rattle.command_words.specs.Commands.{IsWithin, file_of, texts_of};
 ghost use Rattle.job_files.specs.Sources.{named_of};
-ghost use Rattle.job_steps.specs.Answers.{AnswersSteps, HasCause};
+ghost use Rattle.job_steps.specs.Answers.{AnswersSteps, LeavesDevices};
 ghost use Rattle.job_steps.specs.Jobs.{BindsWork, PlacesWork, PreparesC, PreparesJob, PreparesPipeline};
 ghost use Rattle.job_steps.specs.Pipelines.{LoadsPipeline};
 ghost use Rattle.job_steps.specs.Steps.{Is, Then};
@@ -48,17 +48,13 @@ fn behind(words: &[String], rest: u64) -> &[String]
 }
 
 /// Writes the counts of the pipeline in a file.
-#[tactic(auto, using(crate::proofs::JobAnswers::causes))]
+#[tactic(auto, using(crate::proofs::JobAnswers::devices))]
 fn check_file<F: Files, O: Sink>(alloc: Global, name: &str, files: &mut F, out: &mut O) -> Status
     ensures answers { AnswersSteps
-        (Then (LoadsPipeline (F.holds files.old) name.now) (λ s. Is (Ok (Counting s.pipeline))))
+        (Then (LoadsPipeline (F.told files.old).holds name.now) (λ s. Is (Ok (Counting s.pipeline))))
         (O.written out.old) (O.written out.new) result }
-    ensures cause { HasCause (F.misses files.old) (F.misses files.new)
-        (F.faults files.old) (F.faults files.new) (O.faults out.old) (O.faults out.new) result }
-    ensures holds { F.holds files.new ≡ F.holds files.old }
-    ensures misses { F.misses files.old ≤ F.misses files.new }
-    ensures read_faults { F.faults files.old ≤ F.faults files.new }
-    ensures write_faults { O.faults out.old ≤ O.faults out.new }
+    ensures leaves { LeavesDevices (F.told files.old) (F.told files.new)
+        (O.faults out.old) (O.faults out.new) result }
 {
     match loaded_pipeline(alloc, files, name) {
         Ok(source) => count(alloc, &source.program, out),
@@ -67,17 +63,13 @@ fn check_file<F: Files, O: Sink>(alloc: Global, name: &str, files: &mut F, out: 
 }
 
 /// Writes the C text of the pipeline in a file.
-#[tactic(auto, using(crate::proofs::JobAnswers::causes))]
+#[tactic(auto, using(crate::proofs::JobAnswers::devices))]
 fn compile_file<F: Files, O: Sink>(alloc: Global, name: &str, files: &mut F, out: &mut O) -> Status
     ensures answers { AnswersSteps
-        (Then (LoadsPipeline (F.holds files.old) name.now) (λ s. Is (Ok (Compiling s.pipeline))))
+        (Then (LoadsPipeline (F.told files.old).holds name.now) (λ s. Is (Ok (Compiling s.pipeline))))
         (O.written out.old) (O.written out.new) result }
-    ensures cause { HasCause (F.misses files.old) (F.misses files.new)
-        (F.faults files.old) (F.faults files.new) (O.faults out.old) (O.faults out.new) result }
-    ensures holds { F.holds files.new ≡ F.holds files.old }
-    ensures misses { F.misses files.old ≤ F.misses files.new }
-    ensures read_faults { F.faults files.old ≤ F.faults files.new }
-    ensures write_faults { O.faults out.old ≤ O.faults out.new }
+    ensures leaves { LeavesDevices (F.told files.old) (F.told files.new)
+        (O.faults out.old) (O.faults out.new) result }
 {
     match loaded_pipeline(alloc, files, name) {
         Ok(source) => compile(alloc, &source.program, out),
@@ -86,7 +78,7 @@ fn compile_file<F: Files, O: Sink>(alloc: Global, name: &str, files: &mut F, out
 }
 
 /// Writes what a pipeline shows on the inputs that words bind.
-#[tactic(auto, using(crate::proofs::JobAnswers::causes))]
+#[tactic(auto, using(crate::proofs::JobAnswers::devices))]
 fn show_source<F: Files, O: Sink>(
     alloc: Global,
     way: Way,
@@ -96,14 +88,10 @@ fn show_source<F: Files, O: Sink>(
     out: &mut O,
 ) -> Status
     ensures answers { AnswersSteps
-        (BindsWork (F.holds files.old) (texts_of words.now) (work_of way) (named_of source.now))
+        (BindsWork (F.told files.old).holds (texts_of words.now) (work_of way) (named_of source.now))
         (O.written out.old) (O.written out.new) result }
-    ensures cause { HasCause (F.misses files.old) (F.misses files.new)
-        (F.faults files.old) (F.faults files.new) (O.faults out.old) (O.faults out.new) result }
-    ensures holds { F.holds files.new ≡ F.holds files.old }
-    ensures misses { F.misses files.old ≤ F.misses files.new }
-    ensures read_faults { F.faults files.old ≤ F.faults files.new }
-    ensures write_faults { O.faults out.old ≤ O.faults out.new }
+    ensures leaves { LeavesDevices (F.told files.old) (F.told files.new)
+        (O.faults out.old) (O.faults out.new) result }
 {
     let names = source.tree.inputs.as_slice();
     match bound_inputs(alloc, files, words, names, &source.program.inputs) {
@@ -113,7 +101,7 @@ fn show_source<F: Files, O: Sink>(
 }
 
 /// Writes what the pipeline in a file shows on the inputs that words bind.
-#[tactic(auto, using(crate::proofs::JobAnswers::causes))]
+#[tactic(auto, using(crate::proofs::JobAnswers::devices))]
 fn show_file<F: Files, O: Sink>(
     alloc: Global,
     way: Way,
@@ -123,14 +111,10 @@ fn show_file<F: Files, O: Sink>(
     out: &mut O,
 ) -> Status
     ensures answers { AnswersSteps
-        (PreparesPipeline (F.holds files.old) name.now (texts_of words.now) (work_of way))
+        (PreparesPipeline (F.told files.old).holds name.now (texts_of words.now) (work_of way))
         (O.written out.old) (O.written out.new) result }
-    ensures cause { HasCause (F.misses files.old) (F.misses files.new)
-        (F.faults files.old) (F.faults files.new) (O.faults out.old) (O.faults out.new) result }
-    ensures holds { F.holds files.new ≡ F.holds files.old }
-    ensures misses { F.misses files.old ≤ F.misses files.new }
-    ensures read_faults { F.faults files.old ≤ F.faults files.new }
-    ensures write_faults { O.faults out.old ≤ O.faults out.new }
+    ensures leaves { LeavesDevices (F.told files.old) (F.told files.new)
+        (O.faults out.old) (O.faults out.new) result }
 {
     match loaded_pipeline(alloc, files, name) {
         Ok(source) => show_source(alloc, way, &source, words, files, out),
@@ -139,7 +123,7 @@ fn show_file<F: Files, O: Sink>(
 }
 
 /// Runs a program of a C text on values in order, with so many turns of its loops.
-#[tactic(auto, using(crate::proofs::JobAnswers::causes))]
+#[tactic(auto, using(crate::proofs::JobAnswers::devices))]
 fn execute_on<F: Files, O: Sink>(
     alloc: Global,
     turns: u64,
@@ -149,14 +133,10 @@ fn execute_on<F: Files, O: Sink>(
     out: &mut O,
 ) -> Status
     ensures answers { AnswersSteps
-        (PlacesWork (F.holds files.old) (texts_of values.now) turns (routine_of program.now))
+        (PlacesWork (F.told files.old).holds (texts_of values.now) turns (routine_of program.now))
         (O.written out.old) (O.written out.new) result }
-    ensures cause { HasCause (F.misses files.old) (F.misses files.new)
-        (F.faults files.old) (F.faults files.new) (O.faults out.old) (O.faults out.new) result }
-    ensures holds { F.holds files.new ≡ F.holds files.old }
-    ensures misses { F.misses files.old ≤ F.misses files.new }
-    ensures read_faults { F.faults files.old ≤ F.faults files.new }
-    ensures write_faults { O.faults out.old ≤ O.faults out.new }
+    ensures leaves { LeavesDevices (F.told files.old) (F.told files.new)
+        (O.faults out.old) (O.faults out.new) result }
 {
     match placed_inputs(alloc, files, values, &program.params) {
         Ok(inputs) => execute(alloc, program, &inputs, turns, out),
@@ -165,7 +145,7 @@ fn execute_on<F: Files, O: Sink>(
 }
 
 /// Runs the program of the C text in a file on values in order, with so many turns of its loops.
-#[tactic(auto, using(crate::proofs::JobAnswers::causes))]
+#[tactic(auto, using(crate::proofs::JobAnswers::devices))]
 fn execute_file<F: Files, O: Sink>(
     alloc: Global,
     turns: u64,
@@ -175,14 +155,10 @@ fn execute_file<F: Files, O: Sink>(
     out: &mut O,
 ) -> Status
     ensures answers { AnswersSteps
-        (PreparesC (F.holds files.old) name.now (texts_of values.now) turns)
+        (PreparesC (F.told files.old).holds name.now (texts_of values.now) turns)
         (O.written out.old) (O.written out.new) result }
-    ensures cause { HasCause (F.misses files.old) (F.misses files.new)
-        (F.faults files.old) (F.faults files.new) (O.faults out.old) (O.faults out.new) result }
-    ensures holds { F.holds files.new ≡ F.holds files.old }
-    ensures misses { F.misses files.old ≤ F.misses files.new }
-    ensures read_faults { F.faults files.old ≤ F.faults files.new }
-    ensures write_faults { O.faults out.old ≤ O.faults out.new }
+    ensures leaves { LeavesDevices (F.told files.old) (F.told files.new)
+        (O.faults out.old) (O.faults out.new) result }
 {
     match loaded_c(alloc, files, name) {
         Ok(program) => execute_on(alloc, turns, &program, values, files, out),
@@ -216,14 +192,10 @@ pub fn do_job<F: Files, O: Sink>(
 ) -> Status
     requires { IsWithin job }
     ensures answers { AnswersSteps
-        (PreparesJob (F.holds files.old) (texts_of words.now) (Some job))
+        (PreparesJob (F.told files.old).holds (texts_of words.now) (Some job))
         (O.written out.old) (O.written out.new) result }
-    ensures cause { HasCause (F.misses files.old) (F.misses files.new)
-        (F.faults files.old) (F.faults files.new) (O.faults out.old) (O.faults out.new) result }
-    ensures holds { F.holds files.new ≡ F.holds files.old }
-    ensures misses { F.misses files.old ≤ F.misses files.new }
-    ensures read_faults { F.faults files.old ≤ F.faults files.new }
-    ensures write_faults { O.faults out.old ≤ O.faults out.new }
+    ensures leaves { LeavesDevices (F.told files.old) (F.told files.new)
+        (O.faults out.old) (O.faults out.new) result }
 {
     let name = file_in(words);
     match job {

@@ -1,6 +1,6 @@
 ghost use Rattle.std.specs.Prelude.{◌≡◌, ◌≤◌, ◌↔◌, ℕ, Some, None, Ok, Err};
 ghost use Rattle.command_words.specs.Commands.{job_of, texts_of};
-ghost use Rattle.job_steps.specs.Answers.{Answers, ComesOfFailing, ComesOfWork, HasCause};
+ghost use Rattle.job_steps.specs.Answers.{Answers, ComesOfFailing, ComesOfWork, LeavesDevices};
 ghost use Rattle.job_steps.specs.Jobs.{Prepares};
 ghost use Rattle.job_steps.specs.Works.{Work};
 ghost use Rattle.status_lines.specs.StatusLines.{line_of, Reports};
@@ -23,17 +23,15 @@ pub fn run_words<F: Files, O: Sink, E: Sink>(
     err: &mut E,
 ) -> Status
     // The headline: what each status says of the words, of the files, and of what was written to `out`.
-    ensures answers { Answers (F.holds files.old) (texts_of words.now)
+    ensures answers { Answers (F.told files.old).holds (texts_of words.now)
         (O.written out.old) (O.written out.new) result }
-    ensures cause { HasCause (F.misses files.old) (F.misses files.new)
-        (F.faults files.old) (F.faults files.new) (O.faults out.old) (O.faults out.new) result }
 
     // When each status comes: where a step fails, its status; and where all pass, one that the work ends
     // with.
     ensures words { (result ≡ Status.Words) ↔ (job_of (texts_of words.now) ≡ None) }
-    ensures exact { (store : Store) (failed : Status) → F.holds files.old ≡ Some store
+    ensures exact { (store : Store) (failed : Status) → (F.told files.old).holds ≡ Some store
         → Prepares (Some store) (texts_of words.now) (Err failed) → ComesOfFailing failed result }
-    ensures complete { (store : Store) (work : Work) → F.holds files.old ≡ Some store
+    ensures complete { (store : Store) (work : Work) → (F.told files.old).holds ≡ Some store
         → Prepares (Some store) (texts_of words.now) (Ok work) → ComesOfWork work result }
 
     // The line on `err`.
@@ -41,11 +39,9 @@ pub fn run_words<F: Files, O: Sink, E: Sink>(
         (E.faults err.old) (E.faults err.new) }
     ensures quiet { result ≡ Status.Done → E.written err.new ≡ E.written err.old }
 
-    // The devices: what the store holds stays, and no count falls.
-    ensures holds { F.holds files.new ≡ F.holds files.old }
-    ensures misses { F.misses files.old ≤ F.misses files.new }
-    ensures read_faults { F.faults files.old ≤ F.faults files.new }
-    ensures write_faults { O.faults out.old ≤ O.faults out.new }
+    // The devices: what the store holds stays, no count falls, and a status of a device has its cause.
+    ensures leaves { LeavesDevices (F.told files.old) (F.told files.new)
+        (O.faults out.old) (O.faults out.new) result }
     ensures line_faults { E.faults err.old ≤ E.faults err.new }
 {
     words_come_to_one();
@@ -57,15 +53,11 @@ pub fn run_words<F: Files, O: Sink, E: Sink>(
 
 /// Does what the words ask for.
 fn perform<F: Files, O: Sink>(alloc: Global, words: &[String], files: &mut F, out: &mut O) -> Status
-    ensures answers { Answers (F.holds files.old) (texts_of words.now)
+    ensures answers { Answers (F.told files.old).holds (texts_of words.now)
         (O.written out.old) (O.written out.new) result }
     ensures words { job_of (texts_of words.now) ≡ None → result ≡ Status.Words }
-    ensures cause { HasCause (F.misses files.old) (F.misses files.new)
-        (F.faults files.old) (F.faults files.new) (O.faults out.old) (O.faults out.new) result }
-    ensures holds { F.holds files.new ≡ F.holds files.old }
-    ensures misses { F.misses files.old ≤ F.misses files.new }
-    ensures read_faults { F.faults files.old ≤ F.faults files.new }
-    ensures write_faults { O.faults out.old ≤ O.faults out.new }
+    ensures leaves { LeavesDevices (F.told files.old) (F.told files.new)
+        (O.faults out.old) (O.faults out.new) result }
 {
     match read_words(words) {
         Some(job) => do_job(alloc, job, words, files, out),

@@ -10,9 +10,9 @@ use Rattle.job_inputs.proofs.inputs.take_bound.Given as goal
 -- what comes of the inputs from here on, behind those that are taken, comes of all
 abbrev pub invariant-loop-i : goal.invariant-loop-i
 invariant-loop-i g l = record {
-  left : (end : Result (List Input) Status) → TakesInputs (g.F.Files.holds l.fn.files) l.taken (bound_givens (texts_of l.words) (names_of (drop l.i l.names)) (drop l.i l.kinds)) end
-      → TakesInputs (g.F.Files.holds l.fn.files) [] (bound_givens (texts_of l.words) (names_of l.names) l.kinds) end;
-  holds : g.F.Files.holds l.files ≡ g.F.Files.holds l.fn.files;
-  misses : g.F.Files.misses l.fn.files ≤ g.F.Files.misses l.files;
-  faults : g.F.Files.faults l.fn.files ≤ g.F.Files.faults l.files;
+  left : (end : Result (List Input) Status) → TakesInputs (g.F.Files.told l.fn.files).holds l.taken (bound_givens (texts_of l.words) (names_of (drop l.i l.names)) (drop l.i l.kinds)) end
+      → TakesInputs (g.F.Files.told l.fn.files).holds [] (bound_givens (texts_of l.words) (names_of l.names) l.kinds) end;
+  holds : (g.F.Files.told l.files).holds ≡ (g.F.Files.told l.fn.files).holds;
+  misses : (g.F.Files.told l.fn.files).misses ≤ (g.F.Files.told l.files).misses;
+  faults : (g.F.Files.told l.fn.files).faults ≤ (g.F.Files.told l.files).faults;
 }

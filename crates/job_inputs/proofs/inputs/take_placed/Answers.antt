@@ -11,7 +11,7 @@ use Rattle.job_inputs.proofs.inputs.take_placed.Goals as goal
 
 pub returns-in_err-input-clause-takes : goal.returns-in_err-input-clause-takes
 returns-in_err-input-clause-takes g c =
-    let store = g.F.Files.holds c.args.files.now in
+    let store = (g.F.Files.told c.args.files.now).holds in
     let given : Given = record { name = Position c.loop-i.i; kind = c.get.result.now; value = c.as_str-given.result.now } in
     let rest = placed_givens (c.loop-i.i + 1) (texts_of (drop (c.loop-i.i + 1) c.args.values.now)) (drop (c.loop-i.i + 1) c.args.kinds.now) in
     let here = placed_left c.args.values.now c.args.kinds.now c.loop-i.i c.index-values-i.result c.get.result.now c.as_str-given.result.now (omega arith) c.index-values-i.is c.get.ensures c.as_str-given.ensures.value in
@@ -20,13 +20,13 @@ returns-in_err-input-clause-takes g c =
 
 pub loop-i-preserved : goal.loop-i-preserved
 loop-i-preserved g c =
-    let store = g.F.Files.holds c.args.files.now in
+    let store = (g.F.Files.told c.args.files.now).holds in
     let given : Given = record { name = Position c.loop-i.i; kind = c.get.result.now; value = c.as_str-given.result.now } in
     let rest = placed_givens (c.loop-i.i + 1) (texts_of (drop (c.loop-i.i + 1) c.args.values.now)) (drop (c.loop-i.i + 1) c.args.kinds.now) in
     let here = placed_left c.args.values.now c.args.kinds.now c.loop-i.i c.index-values-i.result c.get.result.now c.as_str-given.result.now (omega arith) c.index-values-i.is c.get.ensures c.as_str-given.ensures.value in
     record {
       left = take_goes store _ c.loop-i.invariant.holds c.loop-i.taken given rest _ (TakesInputs store [] (placed_givens 0 (texts_of c.args.values.now) c.args.kinds.now)) here c.loop-i.invariant.left c.in_ok-input.input c.push.new.self c.in_ok-input.ensures.takes c.in_ok-push.ensures.ok;
-      holds = c.take_input.ensures.holds ∙ c.loop-i.invariant.holds;
-      misses = omega (arith, c.take_input.ensures.misses, c.loop-i.invariant.misses);
-      faults = omega (arith, c.take_input.ensures.faults, c.loop-i.invariant.faults);
+      holds = c.take_input.ensures.leaves.holds ∙ c.loop-i.invariant.holds;
+      misses = omega (arith, c.take_input.ensures.leaves.misses, c.loop-i.invariant.misses);
+      faults = omega (arith, c.take_input.ensures.leaves.faults, c.loop-i.invariant.faults);
     }

@@ -15,6 +15,6 @@ loop-buffer-preserved g c =
     record {
       taken = rw (items, len) taken;
       holds = cc;
-      misses = omega (arith, c.loop-buffer.invariant.misses, c.in-Got.ensures.misses);
-      faults = omega (arith, c.loop-buffer.invariant.faults, c.in-Got.ensures.faults);
+      misses = omega (arith, c.loop-buffer.invariant.misses, c.in-Got.ensures.leaves.misses);
+      faults = omega (arith, c.loop-buffer.invariant.faults, c.in-Got.ensures.leaves.faults);
     }

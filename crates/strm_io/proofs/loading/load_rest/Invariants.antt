@@ -4,10 +4,10 @@ use Rattle.strm_io.proofs.loading.load_rest.Given as goal
 
 abbrev pub invariant-loop-buffer : goal.invariant-loop-buffer
 invariant-loop-buffer g l = record {
-  taken : TakesPrefix (g.F.Files.left l.fn.files) (g.F.Files.left l.files) (vec_len l.bytes) l.bytes.items;
-  holds : g.F.Files.holds l.files ≡ g.F.Files.holds l.fn.files;
-  misses : g.F.Files.misses l.fn.files ≤ g.F.Files.misses l.files;
-  faults : g.F.Files.faults l.fn.files ≤ g.F.Files.faults l.files;
+  taken : TakesPrefix (g.F.Files.told l.fn.files).left (g.F.Files.told l.files).left (vec_len l.bytes) l.bytes.items;
+  holds : (g.F.Files.told l.files).holds ≡ (g.F.Files.told l.fn.files).holds;
+  misses : (g.F.Files.told l.fn.files).misses ≤ (g.F.Files.told l.files).misses;
+  faults : (g.F.Files.told l.fn.files).faults ≤ (g.F.Files.told l.files).faults;
 }
 
 abbrev pub decreases-loop-buffer : goal.decreases-loop-buffer
