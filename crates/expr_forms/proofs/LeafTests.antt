@@ -1,5 +1,5 @@
 -- The leaves of forms and operations: what passes in the parts passes in the whole.
-use Rattle.std.proofs.Common.{◌≡◌, ℕ, Bool, true, false, ◌&&◌, refl, ◌∙◌, arith}
+use Rattle.std.proofs.Common.{◌≡◌, ℕ, suc, Bool, true, false, ◌&&◌, refl, ◌∙◌, arith}
 use Rattle.std.specs.Prelude.{IsTrue, if◌then◌else◌}
 use Rattle.strm_num.proofs.Truths.{true_both}
 use Rattle.strm_num.specs.Words.{IsWord}
@@ -19,7 +19,7 @@ use Rattle.expr_constants.specs.Constants.{constant_of}
 use Rattle.expr_constants.specs.Simple.{is_simple}
 use Rattle.expr_forms.specs.FormLeaves as leaf
 use Rattle.expr_forms.specs.FormLeaves.{IsLeafTest}
-use Rattle.expr_forms.specs.Forms.{Form, AWord, ATest, InTarget, Lowered, Condition, condition_of, is_word, operand_rest, operand_block, operand_in, condition_in, target_rest, into, as_word, in_target, lowered_minus, lowered_not, lowered_arithmetic, lowered_comparison, division_operand_block, division_operand_in, lowered_division, lowered_operation, lowered_multiple, is_empty, connective_rest, lowered_connective, lowered_choice}
+use Rattle.expr_forms.specs.Forms.{Form, AWord, ATest, InTarget, Lowered, Condition, condition_of, is_word, operand_rest, operand_block, operand_in, word_test, condition_in, target_rest, into, as_word, in_target, lowered_minus, lowered_not, lowered_arithmetic, lowered_comparison, division_operand_block, division_operand_in, lowered_division, lowered_operation, lowered_multiple, is_empty, connective_rest, lowered_connective, lowered_choice}
 use Rattle.expr_forms.specs.Laws.{Laws}
 
 -- both tests fail together where one does
@@ -99,8 +99,12 @@ module _ (laws : Laws) (passes : Operand → Bool) (is : IsLeafTest passes) wher
   not_zero_in : (w : Operand) → InOperand w → InTest (s.Not (Same w (s.Const 0)))
   not_zero_in w h = operands_in w (s.Const 0) h zero_in
 
+  word_test_in : (w : Operand) → InOperand w → InTest (word_test w)
+  word_test_in (s.Const (suc c)) h = operands_in (s.Const 0) (s.Const 0) zero_in zero_in
+  word_test_in w h = not_zero_in w h
+
   condition_in_in : (f : Form) (v : ℕ) → InForm f → InVariable v → InTest (condition_in f v)
-  condition_in_in (AWord w) v h at = not_zero_in w h
+  condition_in_in (AWord w) v h at = word_test_in w h
   condition_in_in (ATest t) v h at = h
   condition_in_in InTarget v h at = not_zero_in (s.Var v) at
 

@@ -52,9 +52,14 @@ operand_in (AWord w) v = w
 operand_in (ATest t) v = Var v
 operand_in InTarget v = Var v
 
+-- whether a word is true. Of a constant other than 0 the test always holds
+abbrev pub word_test : Operand → Test
+word_test (Const (suc c)) = Same (Const 0) (Const 0)
+word_test w = Not (Same w (Const 0))
+
 -- a condition
 abbrev pub condition_in : Form → ℕ → Test
-condition_in (AWord w) v = Not (Same w (Const 0))
+condition_in (AWord w) v = word_test w
 condition_in (ATest t) v = t
 condition_in InTarget v = Not (Same (Var v) (Const 0))
 

@@ -2,11 +2,11 @@
 
 ghost use Rattle.std.specs.Prelude.{◌≡◌, IfOk, OnOk};
 ghost use Rattle.loop_ir.specs.StatementCopies.{operand_of, test_of};
-ghost use Rattle.expr_forms.specs.Forms.{AWord, operand_rest, operand_in, condition_in, target_rest};
+ghost use Rattle.expr_forms.specs.Forms.{AWord, operand_rest, operand_in, word_test, condition_in, target_rest};
 ghost use Rattle.expr_phrases.specs.PhraseCopies.{Appends};
 ghost use Rattle.expr_forms.specs.FormCopies.{form_of};
 
-use expr_phrases::{boxed_word, is_not_zero, set_truth};
+use expr_phrases::{boxed_test, boxed_word, is_not_zero, set_truth};
 use loop_ir::{Stmt, Stmts, T, W};
 use std::alloc::Global;
 use strm_num::NoMemory;
@@ -43,12 +43,22 @@ pub fn operand(alloc: Global, f: Form, v: u32, block: &mut Stmts) -> Result<Box<
     }
 }
 
+/// Whether a word is true. Of a constant other than 0 the test always holds.
+fn word_test(alloc: Global, w: Box<W>) -> Result<Box<T>, NoMemory>
+    ensures { IfOk result (λ t. test_of t.value ≡ word_test (operand_of w.value)) }
+{
+    if matches!(&*w, W::Const(c) if *c != 0) {
+        return boxed_test(alloc, T::Same(W::Const(0), W::Const(0)));
+    }
+    is_not_zero(alloc, Box::into_inner(w))
+}
+
 /// The value as a condition.
 pub fn condition(alloc: Global, f: Form, v: u32) -> Result<Box<T>, NoMemory>
     ensures { IfOk result (λ t. test_of t.value ≡ condition_in (form_of f) v) }
 {
     match f {
-        Form::Word(w) => is_not_zero(alloc, Box::into_inner(w)),
+        Form::Word(w) => word_test(alloc, w),
         Form::Test(t) => Ok(t),
         Form::InTarget => is_not_zero(alloc, W::Var(v)),
     }

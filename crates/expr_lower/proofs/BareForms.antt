@@ -14,7 +14,7 @@ use Rattle.loop_ir.specs.Statements as s
 use Rattle.loop_ir.specs.Statements.{Operand, Test, Same, Block, Nil, Cons, join}
 use Rattle.expr_phrases.specs.Phrases.{Division, Quotient, Remainder, set, minus, set_truth, by_dividend, by_divisor, Connective, Conjunction, Disjunction, connected_test, connected_block, divides_modulus, magnitude_block, multiple_test}
 use Rattle.expr_constants.specs.Constants.{by_constant, constant_of, IsWordConstant}
-use Rattle.expr_forms.specs.Forms.{Form, AWord, ATest, InTarget, Lowered, Condition, condition_of, is_word, operand_rest, operand_block, operand_in, condition_in, into, as_word, in_target, lowered_minus, lowered_not, lowered_arithmetic, lowered_comparison, division_operand_block, division_operand_in, lowered_division, lowered_operation, lowered_multiple, is_empty, is_neutral, lowered_truth, lowered_connective, lowered_connected, lowered_choice, lowered_chosen}
+use Rattle.expr_forms.specs.Forms.{Form, AWord, ATest, InTarget, Lowered, Condition, condition_of, is_word, operand_rest, operand_block, operand_in, word_test, condition_in, into, as_word, in_target, lowered_minus, lowered_not, lowered_arithmetic, lowered_comparison, division_operand_block, division_operand_in, lowered_division, lowered_operation, lowered_multiple, is_empty, is_neutral, lowered_truth, lowered_connective, lowered_connected, lowered_choice, lowered_chosen}
 use Rattle.expr_lower.specs.Lowering.{folded, lowered_parts, lowered_dividend, lowered_term}
 use Rattle.expr_lower.specs.Multiples.{dividend_of, multiple_divisor}
 use Rattle.expr_lower.specs.Laws.{Laws}
@@ -83,8 +83,12 @@ module _ (laws : Laws) (passes : Operand → Bool) (constants : (c : ℕ) → Is
   both_bare : (a b : Operand) → InOperand a → InOperand b → IsTrue (operand_leaves passes a && operand_leaves passes b)
   both_bare a b h k = true_both (operand_leaves passes a) (operand_leaves passes b) h k
 
+  word_test_bare : (w : Operand) → InOperand w → InTest (word_test w)
+  word_test_bare (s.Const (suc c)) h = both_bare (s.Const 0) (s.Const 0) zero_bare zero_bare
+  word_test_bare w h = both_bare w (s.Const 0) h zero_bare
+
   form_bare : (b : Block) (f : Form) (v : ℕ) → BareIn b f → IsTrue (is_empty b) → InTest (condition_in f v)
-  form_bare b (AWord w) v h none = both_bare w (s.Const 0) h zero_bare
+  form_bare b (AWord w) v h none = word_test_bare w h
   form_bare b (ATest t) v h none = h none
   form_bare b InTarget v h none = absurd (h none)
 

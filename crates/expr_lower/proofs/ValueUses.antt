@@ -11,7 +11,7 @@ use Rattle.loop_ir.specs.Statements.{Operand, Const, Var, Test, Same, Not, Block
 use Rattle.loop_ir.specs.Meaning.{operand_value, test_value}
 use Rattle.expr_lower.specs.Contract.{is_true, Kept, ComesTo, GoesOn, IsIn}
 use Rattle.expr_phrases.specs.Phrases.{set, set_truth}
-use Rattle.expr_forms.specs.Forms.{Form, AWord, ATest, InTarget, operand_rest, operand_in, condition_in, target_rest}
+use Rattle.expr_forms.specs.Forms.{Form, AWord, ATest, InTarget, operand_rest, operand_in, word_test, condition_in, target_rest}
 use Rattle.expr_lower.specs.Scopes.{IsLeafInPlace, WordsInPlace}
 use Rattle.expr_lower.proofs.Disjointness.{IsDisjointLeaf, IsDisjoint}
 use Rattle.expr_lower.proofs.Leaves.{both_leaves}
@@ -81,13 +81,18 @@ module _ (rows words : List ℕ) (inputs : List Input) where
   condition_word : (w : Operand) (x : ℕ) (env' : List ℕ) → operand_value inputs w env' ≡ Is x → IsCondition (Not (Same w (Const 0))) x env'
   condition_word w x env' h = rw (h) (ap Is (not_zero x))
 
+  -- a constant other than 0 is always true
+  word_condition : (w : Operand) (x : ℕ) (env' : List ℕ) → operand_value inputs w env' ≡ Is x → IsCondition (word_test w) x env'
+  word_condition (Const (suc c)) x env' h = let same : suc c ≡ x = cc in ap (λ n. Is (is_true n)) same
+  word_condition w x env' h = condition_word w x env' h
+
   condition_truth : (c : Test) (x : ℕ) (env' : List ℕ) → HasTruth c env' x → IsCondition c x env'
   condition_truth c x env' h = h.is ∙ ap Is (sym (ap is_true h.as_word ∙ true_truth h.truth))
 
   pub condition_comes : (e : Term) (block : Block) (form : Form) (v t top : ℕ) (env : List ℕ) (g : Got ℕ) → IsDisjoint rows v t top e → WordsInPlace rows words inputs env e → ComesTo inputs block env v t top (IsFound e form v) g → ComesTo inputs block env v t top (IsCondition (condition_in form v)) g
   condition_comes e block (AWord w) v t top env g apart in_place h =
-      holds_too inputs block env v t top (IsFound e (AWord w) v) (IsCondition (Not (Same w (Const 0)))) g h
-      (λ x env' word kept found. condition_word w x env' (found env' (still_in_place e v t top env env' apart kept in_place)))
+      holds_too inputs block env v t top (IsFound e (AWord w) v) (IsCondition (word_test w)) g h
+      (λ x env' word kept found. word_condition w x env' (found env' (still_in_place e v t top env env' apart kept in_place)))
   condition_comes e block (ATest c) v t top env g apart in_place h =
       holds_too inputs block env v t top (IsFound e (ATest c) v) (IsCondition c) g h (λ x env' word kept found. condition_truth c x env' found)
   condition_comes e block InTarget v t top env g apart in_place h =

@@ -129,6 +129,19 @@ first_text : (lowered_test (1 ∷ []) (term.Or (term.Bin sign.Eq (term.Var 0) (t
 unfolding lowered_term
 first_text = refl
 
+-- a constant that is true always holds, and false never does
+true_text : (lowered_test [] (term.Truth true) 2 3).test ≡ Same (Const 0) (Const 0)
+unfolding lowered_term
+true_text = refl
+
+seven_text : (lowered_test [] (term.Bin sign.Add (term.Lit 3) (term.Lit 4)) 2 3).test ≡ Same (Const 0) (Const 0)
+unfolding lowered_term
+seven_text = refl
+
+false_text : (lowered_test [] (term.Truth false) 2 3).test ≡ Not (Same (Const 0) (Const 0))
+unfolding lowered_term
+false_text = refl
+
 -- x % 2 == 0 tests the word itself
 even_text : lowered_test (1 ∷ []) (term.Bin sign.Eq (term.Bin sign.Rem (term.Var 0) (term.Lit 2)) (term.Lit 0)) 2 3
     ≡ record { block = Nil; test = Same (Bin op.Rem (Var 1) (Const 2)) (Const 0) }

@@ -76,6 +76,13 @@ one_variable : range_routine.vars ≡ 1
 unfolding lowered_term
 one_variable = refl
 
+-- ---- the numbers from 0 on, without an end: the guard always holds
+
+endless_text : (routine_for (term.Lit 0 ∷ []) (term.Truth true) (core.Cons (Let (term.Var 0)) (set_state (one_more 0 ∷ []))) (term.Var 1 ∷ []) Print []).body
+    ≡ Cons (Set 0 (Const 0)) (Cons (Loop (Same (Const 0) (Const 0)) (Cons (Emit (Var 0)) (Cons EndRow (Cons (Set 0 (Bin op.Add (Var 0) (Const 1))) Nil)))) Nil)
+unfolding lowered_term
+endless_text = refl
+
 -- ---- a count from 2 down to 1, whose guard is a choice: its value stands in v1, set before the loop and at the end of a turn
 
 abbrev count_guard : Term
