@@ -8,7 +8,7 @@ ghost use Rattle.loop_ir.specs.Routines.{routine_of};
 ghost use Rattle.job_work.specs.Ways.{work_of};
 ghost use Rattle.job_work.specs.Working.{Does};
 
-use crate::compiling::{c_text, routine_of};
+use crate::passes::{c_text, loop_program};
 use count_lines::counts_text;
 use event_texts::print_events;
 use list_denotation::{Inputs, Program};
@@ -102,7 +102,7 @@ pub fn run<O: Sink>(
         (O.written out.old) (O.written out.new) (O.faults out.old) (O.faults out.new) result }
     ensures faults { O.faults out.old ≤ O.faults out.new }
 {
-    match routine_of(alloc, program) {
+    match loop_program(alloc, program) {
         Ok(routine) => execute(alloc, &routine, inputs, turns, out),
         Err(_) => Status::NoMemory,
     }

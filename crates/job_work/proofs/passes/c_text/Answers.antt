@@ -4,7 +4,7 @@ use Rattle.headline.specs.Headline.{IsEmitted}
 use Rattle.loop_ir.specs.Routines.{routine_of}
 use Rattle.loop_ir.specs.WellFormed.{IsWellFormed}
 use Rattle.job_work.proofs.CTexts.{text_of}
-use Rattle.job_work.proofs.compiling.c_text.Goals as goal
+use Rattle.job_work.proofs.passes.c_text.Goals as goal
 
 pub returns : goal.returns
 returns c =
