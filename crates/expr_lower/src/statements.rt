@@ -4,10 +4,10 @@ ghost use Rattle.std.specs.Prelude.{◌≡◌, ◌≤◌, length, IsTrue, IfOk, 
 ghost use Rattle.list_denotation.specs.Copies.{term_of};
 ghost use Rattle.list_denotation.specs.Literals.{has_words};
 ghost use Rattle.list_denotation.specs.Scopes.{is_bound};
-ghost use Rattle.loop_ir.specs.Constants.{operand_has_words, test_has_words, block_has_words};
+ghost use Rattle.loop_ir.specs.Constants.{block_has_words};
 ghost use Rattle.loop_ir.specs.Counts.{block_count, block_loops};
 ghost use Rattle.loop_ir.specs.StatementCopies.{operand_of, test_of, block_of};
-ghost use Rattle.expr_lower.specs.Contract.{scope_of, value_block, condition_block, condition_test, operand_statements, operand_word, IsTarget, GivesValue, GivesTruth, GivesWord, NamesOnly, TestNamesOnly, WordNamesOnly};
+ghost use Rattle.expr_lower.specs.Contract.{scope_of, value_block, condition_block, condition_test, operand_statements, operand_word, IsTarget, GivesValue, NamesOnly, PutsValue, TellsTruth, YieldsWord};
 ghost use Rattle.list_denotation.specs.Costs.{cost};
 ghost use Rattle.expr_lower.specs.Costs.{temps_of};
 ghost use Rattle.expr_phrases.specs.PhraseCopies.{Appends};
@@ -83,24 +83,9 @@ pub fn lower_test(
     ensures test { IfOk result (λ t. test_of t.value
         ≡ condition_test (scope_of slots.now) (term_of e.now) scratch) }
     ensures words { OnOk result (IsTrue (has_words (term_of e.now))) }
-
-    // Of what is appended, and of the test:
-    ensures gives { OnOk result (GivesTruth (scope_of slots.now) (term_of e.now) scratch
+    ensures tells { OnOk result (TellsTruth (scope_of slots.now) (term_of e.now) scratch
         (condition_block (scope_of slots.now) (term_of e.now) scratch)
         (condition_test (scope_of slots.now) (term_of e.now) scratch)) }
-    ensures names { OnOk result (NamesOnly (scope_of slots.now) (term_of e.now) scratch
-        (condition_block (scope_of slots.now) (term_of e.now) scratch)) }
-    ensures test_names { OnOk result (TestNamesOnly (scope_of slots.now) (term_of e.now) scratch
-        (condition_test (scope_of slots.now) (term_of e.now) scratch)) }
-    ensures few { OnOk result
-        (block_count (condition_block (scope_of slots.now) (term_of e.now) scratch)
-        ≤ cost (term_of e.now)) }
-    ensures no_loops { OnOk result
-        (block_loops (condition_block (scope_of slots.now) (term_of e.now) scratch) ≡ 0) }
-    ensures constants { OnOk result (IsTrue (block_has_words
-        (condition_block (scope_of slots.now) (term_of e.now) scratch))) }
-    ensures test_constants { OnOk result (IsTrue (test_has_words
-        (condition_test (scope_of slots.now) (term_of e.now) scratch))) }
 {
     laws_below();
     let frame = Frame {
@@ -133,24 +118,9 @@ pub fn lower_operand(
     ensures word { IfOk result (λ w. operand_of w.value
         ≡ operand_word (scope_of slots.now) (term_of e.now) scratch) }
     ensures words { OnOk result (IsTrue (has_words (term_of e.now))) }
-
-    // Of what is appended, and of the word:
-    ensures gives { OnOk result (GivesWord (scope_of slots.now) (term_of e.now) scratch
+    ensures yields { OnOk result (YieldsWord (scope_of slots.now) (term_of e.now) scratch
         (operand_statements (scope_of slots.now) (term_of e.now) scratch)
         (operand_word (scope_of slots.now) (term_of e.now) scratch)) }
-    ensures names { OnOk result (NamesOnly (scope_of slots.now) (term_of e.now) scratch
-        (operand_statements (scope_of slots.now) (term_of e.now) scratch)) }
-    ensures word_names { OnOk result (WordNamesOnly (scope_of slots.now) (term_of e.now) scratch
-        (operand_word (scope_of slots.now) (term_of e.now) scratch)) }
-    ensures few { OnOk result
-        (block_count (operand_statements (scope_of slots.now) (term_of e.now) scratch)
-        ≤ cost (term_of e.now)) }
-    ensures no_loops { OnOk result
-        (block_loops (operand_statements (scope_of slots.now) (term_of e.now) scratch) ≡ 0) }
-    ensures constants { OnOk result (IsTrue (block_has_words
-        (operand_statements (scope_of slots.now) (term_of e.now) scratch))) }
-    ensures word_constants { OnOk result (IsTrue (operand_has_words
-        (operand_word (scope_of slots.now) (term_of e.now) scratch))) }
 {
     laws_below();
     let frame = Frame {
@@ -174,13 +144,8 @@ pub fn lower(alloc: Global, e: &Expr, slots: &Slots, target: u32) -> Result<Stmt
 
     ensures block { IfOk result (λ ss. block_of ss
         ≡ value_block (scope_of slots.now) (term_of e.now) target) }
-    ensures gives { IfOk result (λ ss.
-        GivesValue (scope_of slots.now) (term_of e.now) target (block_of ss)) }
-    ensures names { IfOk result (λ ss.
-        NamesOnly (scope_of slots.now) (term_of e.now) target (block_of ss)) }
-    ensures few { IfOk result (λ ss. block_count (block_of ss) ≤ cost (term_of e.now)) }
-    ensures no_loops { IfOk result (λ ss. block_loops (block_of ss) ≡ 0) }
-    ensures constants { IfOk result (λ ss. IsTrue (block_has_words (block_of ss))) }
+    ensures puts { IfOk result (λ ss.
+        PutsValue (scope_of slots.now) (term_of e.now) target (block_of ss)) }
 {
     let mut block = Stmts::new(alloc);
     lower_into(alloc, e, slots, target, &mut block)?;

@@ -2,62 +2,21 @@ use Rattle.std.proofs.Common.{length}
 use Rattle.std.proofs.lemmas.Result.{on_ok_weaker}
 use Rattle.list_denotation.specs.Copies.{term_of}
 use Rattle.expr_lower.specs.Contract.{scope_of}
-use Rattle.expr_lower.proofs.Contract.{gives_truth, condition_block_names, condition_test_names, condition_constants}
-use Rattle.expr_lower.proofs.Costs.{few_in_condition, no_loops_in_condition}
+use Rattle.expr_lower.proofs.Contract.{tells_truth}
 use Rattle.expr_lower.proofs.Leaves.{bound_leaves, leaves_word}
 use Rattle.expr_lower.proofs.statements.lower_test.Goals as goal
 
 pub lower_condition-requires-clause-bound : goal.lower_condition-requires-clause-bound
-lower_condition-requires-clause-bound c =
-    bound_leaves (length c.args.slots.now.rows) (term_of c.args.e.now) c.requires.bound
+lower_condition-requires-clause-bound c = bound_leaves (length c.args.slots.now.rows) (term_of c.args.e.now) c.requires.bound
 
 pub returns-clause-words : goal.returns-clause-words
-returns-clause-words c =
-    on_ok_weaker c.lower_condition.result (leaves_word (term_of c.args.e.now)) c.lower_condition.ensures.words
+returns-clause-words c = on_ok_weaker c.lower_condition.result (leaves_word (term_of c.args.e.now)) c.lower_condition.ensures.words
 
-pub returns-clause-gives : goal.returns-clause-gives
-returns-clause-gives c =
+pub returns-clause-tells : goal.returns-clause-tells
+returns-clause-tells c =
     let slots = c.args.slots.now in
     let e = term_of c.args.e.now in
     on_ok_weaker c.lower_condition.result
-    (λ has. gives_truth c.laws_below.ensures (scope_of slots) slots.next e c.args.scratch slots.laid_out
+    (λ has. tells_truth c.laws_below.ensures (scope_of slots) slots.next e c.args.scratch slots.laid_out
     (record { words = leaves_word e has; bound = c.requires.bound; temporaries = c.requires.temporaries; is_target = c.requires.target }))
-    c.lower_condition.ensures.words
-
-pub returns-clause-names : goal.returns-clause-names
-returns-clause-names c =
-    let e = term_of c.args.e.now in
-    on_ok_weaker c.lower_condition.result
-    (λ has. condition_block_names c.laws_below.ensures (scope_of c.args.slots.now) e c.args.scratch (leaves_word e has) c.requires.temporaries)
-    c.lower_condition.ensures.words
-
-pub returns-clause-test_names : goal.returns-clause-test_names
-returns-clause-test_names c =
-    let e = term_of c.args.e.now in
-    on_ok_weaker c.lower_condition.result
-    (λ has. condition_test_names c.laws_below.ensures (scope_of c.args.slots.now) e c.args.scratch (leaves_word e has) c.requires.temporaries)
-    c.lower_condition.ensures.words
-
-pub returns-clause-few : goal.returns-clause-few
-returns-clause-few c =
-    let slots = c.args.slots.now in
-    on_ok_weaker c.lower_condition.result (λ has. few_in_condition c.laws_below.ensures slots.rows (term_of c.args.e.now) c.args.scratch slots.first_temp) c.lower_condition.ensures.words
-
-pub returns-clause-no_loops : goal.returns-clause-no_loops
-returns-clause-no_loops c =
-    let slots = c.args.slots.now in
-    on_ok_weaker c.lower_condition.result (λ has. no_loops_in_condition c.laws_below.ensures slots.rows (term_of c.args.e.now) c.args.scratch slots.first_temp) c.lower_condition.ensures.words
-
-pub returns-clause-constants : goal.returns-clause-constants
-returns-clause-constants c =
-    let e = term_of c.args.e.now in
-    on_ok_weaker c.lower_condition.result
-    (λ has. (condition_constants c.laws_below.ensures (scope_of c.args.slots.now) e c.args.scratch (leaves_word e has) c.requires.temporaries).0)
-    c.lower_condition.ensures.words
-
-pub returns-clause-test_constants : goal.returns-clause-test_constants
-returns-clause-test_constants c =
-    let e = term_of c.args.e.now in
-    on_ok_weaker c.lower_condition.result
-    (λ has. (condition_constants c.laws_below.ensures (scope_of c.args.slots.now) e c.args.scratch (leaves_word e has) c.requires.temporaries).1)
     c.lower_condition.ensures.words
