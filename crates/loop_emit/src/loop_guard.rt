@@ -8,6 +8,7 @@ ghost use Rattle.expr_lower.specs.Costs.{temps_of};
 ghost use Rattle.expr_forms.specs.Forms.{is_empty};
 ghost use Rattle.expr_lower.specs.Lowering.{lowered_test};
 ghost use Rattle.expr_phrases.specs.PhraseCopies.{Appends};
+ghost use Rattle.state_alloc.specs.Frames.{Takes};
 ghost use Rattle.loop_emit.specs.Emission.{loop_guard, behind_guard};
 
 use expr_lower::{lower_into, lower_test, scopes_hold_expressions};
@@ -65,11 +66,8 @@ pub fn open_guard(
         ≡ (loop_guard slots.old.rows (term_of e.now) slots.old.next).test) }
     ensures kept { IfOk result (λ it. it.kept
         ≡ not (is_empty (lowered_test slots.old.rows (term_of e.now) slots.old.next 0).block)) }
-    ensures next { OnOk result (slots.new.next
-        ≡ behind_guard slots.old.rows (term_of e.now) slots.old.next) }
-    ensures rows { OnOk result (slots.new.rows ≡ slots.old.rows) }
-    ensures first_temp { OnOk result (slots.new.first_temp ≡ slots.old.first_temp) }
-    ensures temps { OnOk result (slots.new.temps ≡ slots.old.temps) }
+    ensures takes { OnOk result (Takes slots.old slots.new
+        (behind_guard slots.old.rows (term_of e.now) slots.old.next)) }
 {
     let v = slots.next;
     let guard = condition(alloc, e, slots)?;

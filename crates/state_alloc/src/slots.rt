@@ -25,6 +25,8 @@ pub struct Slots {
 }
 
 impl Slots {
+    ghost use Rattle.state_alloc.specs.Frames.{Becomes, Takes};
+
     /// A scope without words, whose temporaries are the first `temps` variables. It takes no
     /// memory.
     pub fn new(alloc: Global, temps: u32) -> Slots
@@ -44,10 +46,7 @@ impl Slots {
     /// A scope without words, behind all variables that were given out, with the same temporaries.
     /// It takes no memory.
     pub fn empty_scope(&self, alloc: Global) -> Slots
-        ensures rows { result.rows ≡ [] }
-        ensures first_temp { result.first_temp ≡ self.now.first_temp }
-        ensures temps { result.temps ≡ self.now.temps }
-        ensures next { result.next ≡ self.now.next }
+        ensures { Becomes self.now [] self.now.next result }
     {
         Slots {
             rows: Words::new(alloc),
@@ -64,10 +63,7 @@ impl Slots {
         requires { self.old.next + count < 2 ^ 32 }
         ensures first { result ≡ self.old.next }
         ensures fresh { IsFresh self.old.rows self.old.first_temp self.old.temps result }
-        ensures rows { self.new.rows ≡ self.old.rows }
-        ensures next { self.new.next ≡ self.old.next + count }
-        ensures first_temp { self.new.first_temp ≡ self.old.first_temp }
-        ensures temps { self.new.temps ≡ self.old.temps }
+        ensures takes { Takes self.old self.new (self.old.next + count) }
     {
         let first = self.next;
         self.next = first + count;
@@ -81,11 +77,8 @@ impl Slots {
         requires { self.old.next + width < 2 ^ 32 }
         ensures first { IfOk result (λ first. first ≡ self.old.next) }
         ensures fresh { IfOk result (IsFresh self.old.rows self.old.first_temp self.old.temps) }
-        ensures rows { OnOk result
-            (self.new.rows ≡ self.old.rows ++ range_with_len self.old.next width) }
-        ensures next { OnOk result (self.new.next ≡ self.old.next + width) }
-        ensures first_temp { self.new.first_temp ≡ self.old.first_temp }
-        ensures temps { self.new.temps ≡ self.old.temps }
+        ensures becomes { OnOk result (Becomes self.old
+            (self.old.rows ++ range_with_len self.old.next width) (self.old.next + width) self.new) }
         ensures refused { OnErr result (self.new ≡ self.old) }
     {
         let first = self.next;
@@ -98,10 +91,8 @@ impl Slots {
     /// nothing.
     pub fn alias(&mut self, var: u32) -> Result<(), NoMemory>
         requires { (k : ℕ) × (slice_get self.old.rows k ≡ Some var) }
-        ensures rows { OnOk result (self.new.rows ≡ self.old.rows ++ var ∷ []) }
-        ensures first_temp { self.new.first_temp ≡ self.old.first_temp }
-        ensures temps { self.new.temps ≡ self.old.temps }
-        ensures next { self.new.next ≡ self.old.next }
+        ensures becomes { OnOk result
+            (Becomes self.old (self.old.rows ++ var ∷ []) self.old.next self.new) }
         ensures refused { OnErr result (self.new ≡ self.old) }
     {
         self.rows.push(u64::from(var))
@@ -111,10 +102,8 @@ impl Slots {
     /// It takes no memory.
     pub fn unbind(&mut self, width: u32)
         requires { width ≤ length self.old.rows }
-        ensures rows { self.new.rows ≡ take (length self.old.rows - width) self.old.rows }
-        ensures first_temp { self.new.first_temp ≡ self.old.first_temp }
-        ensures temps { self.new.temps ≡ self.old.temps }
-        ensures next { self.new.next ≡ self.old.next }
+        ensures { Becomes self.old
+            (take (length self.old.rows - width) self.old.rows) self.old.next self.new }
     {
         drop_last(&mut self.rows, width);
     }

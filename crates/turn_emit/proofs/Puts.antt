@@ -20,7 +20,8 @@ use Rattle.turn_blocks.specs.Pieces.{Piece, behind, behind_scratch, choose}
 use Rattle.turn_blocks.specs.TurnBlocks.{read_block, choose_piece}
 use Rattle.row_emit.specs.declared.tails.Tail.TheVariants as tail
 use Rattle.turn_emit.specs.declared.turns.Turn.{Turn}
-use Rattle.row_emit.specs.Placed.{Takes, Puts, condition_piece}
+use Rattle.state_alloc.specs.Frames.{Takes}
+use Rattle.row_emit.specs.Placed.{Puts, condition_piece}
 use Rattle.turn_emit.specs.Turns.{piece_at, second_piece, pair_piece, with_tail, rejoined_at}
 use Rattle.turn_emit.proofs.ReadyActs.{piece_after}
 

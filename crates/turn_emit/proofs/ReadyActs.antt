@@ -14,7 +14,7 @@ use Rattle.turn_blocks.specs.Temporaries.{action_temps}
 use Rattle.row_emit.specs.declared.tails.Tail.{Tail}
 use Rattle.row_emit.specs.declared.tails.Tail.TheVariants as tail
 use Rattle.turn_emit.specs.declared.turns.Turn.{Turn}
-use Rattle.row_emit.specs.Placed.{Takes}
+use Rattle.state_alloc.specs.Frames.{Takes}
 use Rattle.row_emit.specs.Readiness.{FitsTail}
 use Rattle.turn_emit.specs.Turns.{piece_at, IsReadyAt, FitsHeld}
 

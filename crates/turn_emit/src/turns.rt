@@ -7,7 +7,8 @@ ghost use Rattle.loop_ir.specs.StatementCopies.{block_of};
 ghost use Rattle.expr_phrases.specs.PhraseCopies.{Appends};
 ghost use Rattle.stateful_core.specs.CoreCopies.{action_of, actions_of};
 ghost use Rattle.stateful_core.specs.CoreTerms.{Let, Read, Update, When, Cons};
-ghost use Rattle.row_emit.specs.Placed.{Puts, Takes};
+ghost use Rattle.state_alloc.specs.Frames.{Takes};
+ghost use Rattle.row_emit.specs.Placed.{Puts};
 ghost use Rattle.turn_blocks.specs.TurnBlocks.{constant_truth, is_none, tested};
 ghost use Rattle.turn_blocks.specs.WordUses.{never_go_on};
 ghost use Rattle.turn_emit.specs.Turns.{held_of, piece_at, piece_of, test_piece_at, second_piece};
@@ -421,13 +422,8 @@ pub fn put_turn(
 ) -> Result<(), NoMemory>
     requires ready { IsReady turn (actions_of acts.now) slots.old }
     requires room { (piece_of turn None (actions_of acts.now) slots.old).next < 2 ^ 32 }
-    ensures block { OnOk result (Appends block.old block.new (piece_of turn.entry None (actions_of
-        acts.now) slots.old).block) }
-    ensures next { OnOk result (slots.new.next ≡ (piece_of turn.entry None (actions_of acts.now)
-        slots.old).next) }
-    ensures rows { OnOk result (slots.new.rows ≡ slots.old.rows) }
-    ensures first_temp { OnOk result (slots.new.first_temp ≡ slots.old.first_temp) }
-    ensures temps { OnOk result (slots.new.temps ≡ slots.old.temps) }
+    ensures { OnOk result (Puts slots.old slots.new block.old block.new
+        (piece_of turn.entry None (actions_of acts.now) slots.old)) }
 {
     put_acts(alloc, acts, None, turn, slots, block)
 }

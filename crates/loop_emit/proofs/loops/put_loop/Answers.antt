@@ -16,7 +16,7 @@ put_turn-requires-clause-room c =
     let after = c.open_guard.new.slots in
     let opened = c.in_ok-opened.ensures in
     subst (λ (p : Piece). p.next < 2 ^ 32)
-    (sym (piece_same c.args.turn (actions_of c.args.acts.now) before.rows after.rows after.first_temp (behind_guard before.rows (term_of c.args.guard.now) before.next) after.next opened.rows (opened.first_temp ∙ c.requires.first_temp) opened.next))
+    (sym (piece_same c.args.turn (actions_of c.args.acts.now) before.rows after.rows after.first_temp (behind_guard before.rows (term_of c.args.guard.now) before.next) after.next opened.takes.rows (opened.takes.first_temp ∙ c.requires.first_temp) opened.takes.next))
     c.requires.room
 
 pub returns-clause-block : goal.returns-clause-block
@@ -28,11 +28,11 @@ returns-clause-block c =
     let acts = actions_of c.args.acts.now in
     let next = behind_guard before.rows e before.next in
     let piece : Piece = piece_at c.args.turn None acts before.rows 0 next in
-    let same = piece_same c.args.turn acts before.rows after.rows after.first_temp next after.next opened.rows (opened.first_temp ∙ c.requires.first_temp) opened.next in
+    let same = piece_same c.args.turn acts before.rows after.rows after.first_temp next after.next opened.takes.rows (opened.takes.first_temp ∙ c.requires.first_temp) opened.takes.next in
     let turn : Appends c.new-body.result c.put_turn.new.block piece.block =
     subst (λ (p : Piece). Appends c.new-body.result c.put_turn.new.block p.block) same c.in_ok-put_turn.ensures.block in
     let again : Appends c.put_turn.new.block c.put_guard.new.block (loop_guard before.rows e before.next).block =
-    subst (λ rs. Appends c.put_turn.new.block c.put_guard.new.block (loop_guard rs e before.next).block) (c.in_ok-put_turn.ensures.rows ∙ opened.rows) c.in_ok-put_guard.ensures in
+    subst (λ rs. Appends c.put_turn.new.block c.put_guard.new.block (loop_guard rs e before.next).block) (c.in_ok-put_turn.ensures.slots.rows ∙ opened.takes.rows) c.in_ok-put_guard.ensures in
     on_ok_weaker c.push.result
     (loop_appended c.args.block.now c.open_guard.new.block c.push.new.self c.put_guard.new.block before.rows e before.next piece.block c.into_inner.result opened.block (ap test_of c.into_inner.ensures ∙ opened.test)
     (whole_body c.new-body.result c.put_turn.new.block c.put_guard.new.block piece.block (loop_guard before.rows e before.next).block c.new-body.ensures turn again))
@@ -44,5 +44,5 @@ returns-clause-next c =
     let after = c.open_guard.new.slots in
     let opened = c.in_ok-opened.ensures in
     let next = behind_guard before.rows (term_of c.args.guard.now) before.next in
-    let same = piece_same c.args.turn (actions_of c.args.acts.now) before.rows after.rows after.first_temp next after.next opened.rows (opened.first_temp ∙ c.requires.first_temp) opened.next in
-    on_ok_weaker c.push.result (λ pushed. c.in_ok-put_turn.ensures.next ∙ ap (λ (p : Piece). p.next) same) c.push.ensures.ok
+    let same = piece_same c.args.turn (actions_of c.args.acts.now) before.rows after.rows after.first_temp next after.next opened.takes.rows (opened.takes.first_temp ∙ c.requires.first_temp) opened.takes.next in
+    on_ok_weaker c.push.result (λ pushed. c.in_ok-put_turn.ensures.slots.next ∙ ap (λ (p : Piece). p.next) same) c.push.ensures.ok

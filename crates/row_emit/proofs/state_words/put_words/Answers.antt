@@ -12,5 +12,5 @@ returns c =
     let slots = c.args.slots.now in
     record {
       block = c.in_ok-after.ensures.block;
-      slots = record { next = taken slots.rows slots.first_temp c.args.k (terms_of c.args.row.now) slots.next c.in_ok-after.after _ c.in_ok-after.ensures.next c.reserve_variables.ensures.next; rows = c.reserve_variables.ensures.rows; first_temp = c.reserve_variables.ensures.first_temp; temps = c.reserve_variables.ensures.temps };
+      slots = record { next = taken slots.rows slots.first_temp c.args.k (terms_of c.args.row.now) slots.next c.in_ok-after.after _ c.in_ok-after.ensures.next c.reserve_variables.ensures.takes.next; rows = c.reserve_variables.ensures.takes.rows; first_temp = c.reserve_variables.ensures.takes.first_temp; temps = c.reserve_variables.ensures.takes.temps };
     }

@@ -21,5 +21,5 @@ returns c =
     ∙ ap (λ t. words_piece (c.args.vars.now ++ last c.args.width slots.rows) t 0 es slots.next) c.in_ok-scope.ensures.first_temp in
     record {
       block = c.in_ok-after.ensures.block ∙ ap (λ p. join (block_of c.args.block.now) p.block) same;
-      slots = record { next = taken scope.rows scope.first_temp 0 es slots.next c.in_ok-after.after _ c.in_ok-after.ensures.next c.reserve_variables.ensures.next ∙ ap (λ p. p.next) same; rows = c.reserve_variables.ensures.rows; first_temp = c.reserve_variables.ensures.first_temp; temps = c.reserve_variables.ensures.temps };
+      slots = record { next = taken scope.rows scope.first_temp 0 es slots.next c.in_ok-after.after _ c.in_ok-after.ensures.next c.reserve_variables.ensures.takes.next ∙ ap (λ p. p.next) same; rows = c.reserve_variables.ensures.takes.rows; first_temp = c.reserve_variables.ensures.takes.first_temp; temps = c.reserve_variables.ensures.takes.temps };
     }

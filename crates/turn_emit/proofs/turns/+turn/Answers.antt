@@ -18,7 +18,8 @@ use Rattle.turn_blocks.specs.StateBlocks.{words_piece}
 use Rattle.turn_blocks.specs.TurnBlocks.{constant_truth}
 use Rattle.turn_blocks.specs.WordUses as uses
 use Rattle.row_emit.specs.declared.tails.Tail.TheVariants as tail
-use Rattle.row_emit.specs.Placed.{Takes, condition_piece}
+use Rattle.state_alloc.specs.Frames.{Takes}
+use Rattle.row_emit.specs.Placed.{condition_piece}
 use Rattle.row_emit.specs.TurnCopies.{stop_of}
 use Rattle.turn_emit.specs.Turns.{held_of, piece_at, second_piece, pair_piece, with_tail, IsReadyAt}
 use Rattle.turn_emit.proofs.ActCopies.{first_and_rest, keep_copy, stop_copy, update_copy}
@@ -105,13 +106,13 @@ put_alias-put_acts-requires t c =
     let slots = c.args.slots.now in
     let more = c.alias.new.self in
     let rows = slots.rows ++ slice_index slots.rows c.args.k ∷ [] in
-    let same : more.rows ≡ rows = c.in_ok-alias.ensures.rows ∙ ap (λ v. slots.rows ++ v ∷ []) (sym (got_index slots.rows c.args.k c.var_of-v.result c.var_of-v.ensures.row)) in (
+    let same : more.rows ≡ rows = c.in_ok-alias.ensures.becomes.rows ∙ ap (λ v. slots.rows ++ v ∷ []) (sym (got_index slots.rows c.args.k c.var_of-v.result c.var_of-v.ensures.row)) in (
       search rules,
       (
-        held_at (length slots.rows) (length more.rows) slots.temps more.temps (held_of c.args.held) (omega (arith, ap length same, length_push slots.rows (slice_index slots.rows c.args.k))) c.in_ok-alias.ensures.temps c.requires.held,
+        held_at (length slots.rows) (length more.rows) slots.temps more.temps (held_of c.args.held) (omega (arith, ap length same, length_push slots.rows (slice_index slots.rows c.args.k))) c.in_ok-alias.ensures.becomes.temps c.requires.held,
         (
-          ready_same c.args.turn (actions_of c.args.rest.now) rows more.rows slots.first_temp more.first_temp slots.temps more.temps slots.next more.next same c.in_ok-alias.ensures.first_temp c.in_ok-alias.ensures.temps c.in_ok-alias.ensures.next c.requires.ready,
-          room_of _ _ (sym (piece_same c.args.turn (held_of c.args.held) (actions_of c.args.rest.now) rows more.rows slots.first_temp more.first_temp slots.next more.next same c.in_ok-alias.ensures.first_temp c.in_ok-alias.ensures.next)) c.requires.room,
+          ready_same c.args.turn (actions_of c.args.rest.now) rows more.rows slots.first_temp more.first_temp slots.temps more.temps slots.next more.next same c.in_ok-alias.ensures.becomes.first_temp c.in_ok-alias.ensures.becomes.temps c.in_ok-alias.ensures.becomes.next c.requires.ready,
+          room_of _ _ (sym (piece_same c.args.turn (held_of c.args.held) (actions_of c.args.rest.now) rows more.rows slots.first_temp more.first_temp slots.next more.next same c.in_ok-alias.ensures.becomes.first_temp c.in_ok-alias.ensures.becomes.next)) c.requires.room,
         ),
       ),
     )
@@ -121,9 +122,9 @@ put_alias-returns t c =
     let slots = c.args.slots.now in
     let more = c.alias.new.self in
     let rows = slots.rows ++ slice_index slots.rows c.args.k ∷ [] in
-    let same : more.rows ≡ rows = c.in_ok-alias.ensures.rows ∙ ap (λ v. slots.rows ++ v ∷ []) (sym (got_index slots.rows c.args.k c.var_of-v.result c.var_of-v.ensures.row)) in
-    puts_unbound slots more c.put_acts.new.slots c.unbind.new.self c.args.block.now c.put_acts.new.block (slice_index slots.rows c.args.k) _ _ same c.in_ok-alias.ensures.first_temp c.in_ok-alias.ensures.temps
-    c.in_ok-put_acts.ensures (piece_same c.args.turn (held_of c.args.held) (actions_of c.args.rest.now) rows more.rows slots.first_temp more.first_temp slots.next more.next same c.in_ok-alias.ensures.first_temp c.in_ok-alias.ensures.next) c.unbind.ensures.rows c.unbind.ensures.first_temp c.unbind.ensures.temps c.unbind.ensures.next
+    let same : more.rows ≡ rows = c.in_ok-alias.ensures.becomes.rows ∙ ap (λ v. slots.rows ++ v ∷ []) (sym (got_index slots.rows c.args.k c.var_of-v.result c.var_of-v.ensures.row)) in
+    puts_unbound slots more c.put_acts.new.slots c.unbind.new.self c.args.block.now c.put_acts.new.block (slice_index slots.rows c.args.k) _ _ same c.in_ok-alias.ensures.becomes.first_temp c.in_ok-alias.ensures.becomes.temps
+    c.in_ok-put_acts.ensures (piece_same c.args.turn (held_of c.args.held) (actions_of c.args.rest.now) rows more.rows slots.first_temp more.first_temp slots.next more.next same c.in_ok-alias.ensures.becomes.first_temp c.in_ok-alias.ensures.becomes.next) c.unbind.ensures.rows c.unbind.ensures.first_temp c.unbind.ensures.temps c.unbind.ensures.next
 
 pub put_bound-bind-requires : goal.put_bound-bind-requires
 put_bound-bind-requires t c =
@@ -135,13 +136,13 @@ put_bound-put_acts-requires t c =
     let slots = c.args.slots.now in
     let more = c.bind.new.self in
     let rows = slots.rows ++ slots.next ∷ [] in
-    let same : more.rows ≡ rows = c.in_ok-bind.ensures.rows in (
+    let same : more.rows ≡ rows = c.in_ok-bind.ensures.becomes.rows in (
       search rules,
       (
         tt,
         (
-          ready_same c.args.turn (actions_of c.args.rest.now) rows more.rows slots.first_temp more.first_temp slots.temps more.temps (slots.next + 1) more.next same c.in_ok-bind.ensures.first_temp c.in_ok-bind.ensures.temps c.in_ok-bind.ensures.next c.requires.ready,
-          room_of _ _ (sym (piece_same c.args.turn None (actions_of c.args.rest.now) rows more.rows slots.first_temp more.first_temp (slots.next + 1) more.next same c.in_ok-bind.ensures.first_temp c.in_ok-bind.ensures.next)) c.requires.room,
+          ready_same c.args.turn (actions_of c.args.rest.now) rows more.rows slots.first_temp more.first_temp slots.temps more.temps (slots.next + 1) more.next same c.in_ok-bind.ensures.becomes.first_temp c.in_ok-bind.ensures.becomes.temps c.in_ok-bind.ensures.becomes.next c.requires.ready,
+          room_of _ _ (sym (piece_same c.args.turn None (actions_of c.args.rest.now) rows more.rows slots.first_temp more.first_temp (slots.next + 1) more.next same c.in_ok-bind.ensures.becomes.first_temp c.in_ok-bind.ensures.becomes.next)) c.requires.room,
         ),
       ),
     )
@@ -151,9 +152,9 @@ put_bound-returns t c =
     let slots = c.args.slots.now in
     let more = c.bind.new.self in
     let rows = slots.rows ++ slots.next ∷ [] in
-    let same : more.rows ≡ rows = c.in_ok-bind.ensures.rows in
-    puts_unbound slots more c.put_acts.new.slots c.unbind.new.self c.args.block.now c.put_acts.new.block slots.next _ _ same c.in_ok-bind.ensures.first_temp c.in_ok-bind.ensures.temps
-    c.in_ok-put_acts.ensures (piece_same c.args.turn None (actions_of c.args.rest.now) rows more.rows slots.first_temp more.first_temp (slots.next + 1) more.next same c.in_ok-bind.ensures.first_temp c.in_ok-bind.ensures.next) c.unbind.ensures.rows c.unbind.ensures.first_temp c.unbind.ensures.temps c.unbind.ensures.next
+    let same : more.rows ≡ rows = c.in_ok-bind.ensures.becomes.rows in
+    puts_unbound slots more c.put_acts.new.slots c.unbind.new.self c.args.block.now c.put_acts.new.block slots.next _ _ same c.in_ok-bind.ensures.becomes.first_temp c.in_ok-bind.ensures.becomes.temps
+    c.in_ok-put_acts.ensures (piece_same c.args.turn None (actions_of c.args.rest.now) rows more.rows slots.first_temp more.first_temp (slots.next + 1) more.next same c.in_ok-bind.ensures.becomes.first_temp c.in_ok-bind.ensures.becomes.next) c.unbind.ensures.rows c.unbind.ensures.first_temp c.unbind.ensures.temps c.unbind.ensures.next
 
 pub put_let-put_alias-requires : goal.put_let-put_alias-requires
 put_let-put_alias-requires t c =
@@ -470,7 +471,7 @@ put_rejoined-put_choice-requires-clause-room t c =
     let test_later : later ≤ scratch = scratch_grows test later in
     let behind_later = piece_grows c.set_words_take_later_variables.ensures c.args.turn None (actions_of c.args.rest.now) slots.rows slots.first_temp pair.next in
     let reserved : Takes slots c.reserve_variables.new.self later =
-    record { next = c.reserve_variables.ensures.next; rows = c.reserve_variables.ensures.rows; first_temp = c.reserve_variables.ensures.first_temp; temps = c.reserve_variables.ensures.temps } in
+    c.reserve_variables.ensures.takes in
     let room : (condition_piece test later).next < 2 ^ 32 = omega (arith, c.requires.room, pair_later, behind_later) in
     room_of _ _ (sym (condition_same (term_of c.args.choice.test.now) slots c.reserve_variables.new.self later reserved)) room
 
@@ -486,7 +487,7 @@ put_rejoined-put_pair-requires t c =
     let test_later : later ≤ scratch = scratch_grows test later in
     let behind_later = piece_grows c.set_words_take_later_variables.ensures c.args.turn None (actions_of c.args.rest.now) slots.rows slots.first_temp pair.next in
     let reserved : Takes slots c.reserve_variables.new.self later =
-    record { next = c.reserve_variables.ensures.next; rows = c.reserve_variables.ensures.rows; first_temp = c.reserve_variables.ensures.first_temp; temps = c.reserve_variables.ensures.temps } in
+    c.reserve_variables.ensures.takes in
     let tested : Takes slots c.put_choice.new.slots scratch =
     takes_of slots c.put_choice.new.slots _ _ (ap (λ p. p.next) (condition_same (term_of c.args.choice.test.now) slots c.reserve_variables.new.self later reserved))
     (takes_then slots c.reserve_variables.new.self c.put_choice.new.slots _ _ reserved c.in_ok-test.ensures.block.slots) in
@@ -513,7 +514,7 @@ put_rejoined-put_acts-requires t c =
     let test_later : later ≤ scratch = scratch_grows test later in
     let behind_later = piece_grows c.set_words_take_later_variables.ensures c.args.turn None (actions_of c.args.rest.now) slots.rows slots.first_temp pair.next in
     let reserved : Takes slots c.reserve_variables.new.self later =
-    record { next = c.reserve_variables.ensures.next; rows = c.reserve_variables.ensures.rows; first_temp = c.reserve_variables.ensures.first_temp; temps = c.reserve_variables.ensures.temps } in
+    c.reserve_variables.ensures.takes in
     let tested : Takes slots c.put_choice.new.slots scratch =
     takes_of slots c.put_choice.new.slots _ _ (ap (λ p. p.next) (condition_same (term_of c.args.choice.test.now) slots c.reserve_variables.new.self later reserved))
     (takes_then slots c.reserve_variables.new.self c.put_choice.new.slots _ _ reserved c.in_ok-test.ensures.block.slots) in
@@ -544,7 +545,7 @@ put_rejoined-returns t c =
     let test_later : later ≤ scratch = scratch_grows test later in
     let behind_later = piece_grows c.set_words_take_later_variables.ensures c.args.turn None (actions_of c.args.rest.now) slots.rows slots.first_temp pair.next in
     let reserved : Takes slots c.reserve_variables.new.self later =
-    record { next = c.reserve_variables.ensures.next; rows = c.reserve_variables.ensures.rows; first_temp = c.reserve_variables.ensures.first_temp; temps = c.reserve_variables.ensures.temps } in
+    c.reserve_variables.ensures.takes in
     on_ok_weaker c.push-3.result
     (λ is. puts_rejoined slots c.reserve_variables.new.self c.put_pair.new.slots c.put_acts.new.slots c.args.block.now c.push.new.self c.push-2.new.self c.push-3.new.self c.new-behind.result c.put_acts.new.block c.new.result _
     c.args.turn (term_of c.args.choice.test.now) (actions_of c.args.choice.on.now) (actions_of c.args.choice.off.now) (actions_of c.args.rest.now) reserved c.in_ok-push.ensures.ok
