@@ -1,8 +1,7 @@
 -- A constant is the value of its expression, and a word.
-use Rattle.std.proofs.Common.{◌≡◌, ℕ, zero, suc, ◌+◌, ◌-◌, ◌*◌, ◌^◌, Bool, true, false, ◌&&◌, List, Option, Some, None, refl, sym, ap, subst, arith}
-use Rattle.std.specs.Prelude.{IsTrue, if◌then◌else◌, ◌==◌}
+use Rattle.std.proofs.Common.{◌≡◌, ℕ, zero, suc, ◌+◌, ◌-◌, ◌*◌, ◌^◌, Bool, true, false, ◌&&◌, List, Option, Some, None, refl, sym, subst, arith}
+use Rattle.std.specs.Prelude.{IsTrue}
 use Rattle.std.proofs.Math.Nat.{mod-lt}
-use Rattle.std.proofs.Math.Dec.{eqb-suc-zero}
 use Rattle.std.proofs.lemmas.Bool.{ltb-true}
 use Rattle.strm_num.proofs.Truths.{both_true, true_both}
 use Rattle.strm_num.specs.Words.{IsWord, quotient_of, remainder_of, truth_of}
@@ -12,18 +11,16 @@ use Rattle.list_denotation.specs.declared.input.Input.{Input}
 use Rattle.list_denotation.specs.Literals.{has_words}
 use Rattle.list_denotation.specs.Terms.{Term, Lit, Truth, Var, Param, Len, Neg, Not, Bin, And, Or, If}
 use Rattle.list_denotation.specs.Values.{Trap, Got, Is, Fails, with_value, choice, unless_zero, operation_of, value}
+use Rattle.expr_values.specs.Results.{got_of}
 use Rattle.expr_constants.specs.Constants.{with_constant, constant_result, truth_constant, constant_of, IsWordConstant}
 use Rattle.expr_constants.specs.Laws.{Laws}
 
 -- ---- what the code computes
 
-pub quotient_constant : (x y : ℕ) → (if y == 0 then None else Some (quotient_of x y)) ≡ constant_result (unless_zero Trap y (quotient_of x y))
-quotient_constant x zero = refl
-quotient_constant x (suc y) = ap (λ b. if b then None else Some (quotient_of x (suc y))) (eqb-suc-zero y)
-
-pub remainder_constant : (x y : ℕ) → (if y == 0 then None else Some (remainder_of x y)) ≡ constant_result (unless_zero Trap y (remainder_of x y))
-remainder_constant x zero = refl
-remainder_constant x (suc y) = ap (λ b. if b then None else Some (remainder_of x (suc y))) (eqb-suc-zero y)
+-- a computed result is known where there is one
+pub constant_got : (o : Option ℕ) → constant_result (got_of o) ≡ o
+constant_got (Some x) = refl
+constant_got None = refl
 
 pub words_joined : (a b : Term) → IsTrue (has_words a) → IsTrue (has_words b) → IsTrue (has_words a && has_words b)
 words_joined a b h k = true_both (has_words a) (has_words b) h k

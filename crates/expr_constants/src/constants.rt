@@ -3,36 +3,17 @@
 ghost use Rattle.std.specs.Prelude.{◌≡◌, IsTrue};
 ghost use Rattle.list_denotation.specs.Copies.{term_of};
 ghost use Rattle.list_denotation.specs.Literals.{has_words};
-ghost use Rattle.list_denotation.specs.Values.{operation_of};
-ghost use Rattle.expr_constants.specs.Constants.{constant_result, conjunction_constant, disjunction_constant, chosen_constant, operation_constant, constant_of};
+ghost use Rattle.expr_constants.specs.Constants.{conjunction_constant, disjunction_constant, chosen_constant, operation_constant, constant_of};
 
+use expr_values::operation;
 use list_denotation::{BinOp, Expr};
-use strm_num::{Word, div_signed, less_signed, rem_signed};
+use strm_num::Word;
 
-/// The result of an operation on two words: there is none where it divides by 0.
-#[tactic(auto, using(crate::proofs::KnownValues::quotient_constant, crate::proofs::KnownValues::remainder_constant))]
-fn result_of(op: BinOp, x: Word, y: Word) -> Option<Word>
-    ensures { result ≡ constant_result (operation_of op x y) }
-{
-    match op {
-        BinOp::Add => Some(x.wrapping_add(y)),
-        BinOp::Sub => Some(x.wrapping_sub(y)),
-        BinOp::Mul => Some(x.wrapping_mul(y)),
-        BinOp::Div => div_signed(x, y),
-        BinOp::Rem => rem_signed(x, y),
-        BinOp::Eq => Some(u64::from(x == y)),
-        BinOp::Ne => Some(u64::from(x != y)),
-        BinOp::Lt => Some(u64::from(less_signed(x, y))),
-        BinOp::Le => Some(u64::from(!less_signed(y, x))),
-        BinOp::Gt => Some(u64::from(less_signed(y, x))),
-        BinOp::Ge => Some(u64::from(!less_signed(x, y))),
-    }
-}
-
-fn operation(op: BinOp, x: Option<Word>, y: Option<Word>) -> Option<Word>
+#[tactic(auto, using(crate::proofs::KnownValues::constant_got))]
+fn known_operation(op: BinOp, x: Option<Word>, y: Option<Word>) -> Option<Word>
     ensures { result ≡ operation_constant op x y }
 {
-    result_of(op, x?, y?)
+    operation(op, x?, y?)
 }
 
 fn conjunction(x: Option<Word>, y: Option<Word>) -> Option<Word>
@@ -71,7 +52,7 @@ pub fn constant(e: &Expr) -> Option<Word>
         Expr::Var(_) | Expr::Param(_) | Expr::Len(_) => None,
         Expr::Neg(a) => Some(constant(a)?.wrapping_neg()),
         Expr::Not(a) => Some(u64::from(constant(a)? == 0)),
-        Expr::Bin(op, a, b) => operation(*op, constant(a), constant(b)),
+        Expr::Bin(op, a, b) => known_operation(*op, constant(a), constant(b)),
         Expr::And(a, b) => conjunction(constant(a), constant(b)),
         Expr::Or(a, b) => disjunction(constant(a), constant(b)),
         Expr::If(c, a, b) => chosen(constant(c), constant(a), constant(b)),

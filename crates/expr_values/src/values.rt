@@ -59,7 +59,7 @@ pub fn value(e: &Expr, env: &Words, inputs: &Inputs) -> Option<Word>
 }
 
 /// What an operator gives of two words, and none for a divisor of 0.
-fn operation(op: BinOp, x: Word, y: Word) -> Option<Word>
+pub fn operation(op: BinOp, x: Word, y: Word) -> Option<Word>
     ensures { operation_of op x y ≡ got_of result }
 {
     match op {
