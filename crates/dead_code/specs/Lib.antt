@@ -1,0 +1,5 @@
+pub mod Ends
+pub mod Needs
+pub mod Live
+pub mod FirstZeros
+pub mod LiveRoutines

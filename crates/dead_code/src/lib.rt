@@ -1,0 +1,14 @@
+//! Loop programs without dead code.
+//!
+//! It depends on loop_ir, whose programs it goes through.
+#![tactic(auto)]
+
+mod cleaning;
+mod first_zeros;
+mod live;
+mod needs;
+mod reached;
+mod renumbering;
+mod statements;
+
+pub use cleaning::without_dead_code;
