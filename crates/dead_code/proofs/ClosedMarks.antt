@@ -1,8 +1,8 @@
 -- Marks to which a pass adds nothing: none of its steps does.
-use Rattle.std.proofs.Common.{◌≡◌, ℕ, Bool, true, false, List, refl, sym, ap, ◌∙◌, subst}
+use Rattle.std.proofs.Common.{◌≡◌, ℕ, Bool, true, false, List, sym, ap, ◌∙◌, subst}
 use Rattle.std.specs.Prelude.{◌&&◌, if◌then◌else◌}
-use Rattle.loop_ir.specs.Statements.{Operand, Test, Statement, If, Loop, Block, Nil, Cons}
-use Rattle.dead_code.specs.Needs.{is_marked, with_mark, with_operand, with_test, are_idle, needs_of_choice, needs_of, needs_of_block}
+use Rattle.loop_ir.specs.Statements.{Operand, Test, Statement, If, Loop, Block, Cons}
+use Rattle.dead_code.specs.Needs.{is_marked, with_operand, with_test, are_idle, needs_of_choice, needs_of, needs_of_block}
 use Rattle.dead_code.proofs.Growth.{IsWithin, within_trans, within_both, operand_within, test_within, choice_within, one_within, block_within}
 
 -- two steps that add nothing together add nothing each

@@ -1,5 +1,5 @@
 -- A pass only adds marks, and where it adds none, no later one does.
-use Rattle.std.proofs.Common.{◌≡◌, inl, inr, ◌⊎◌, ℕ, zero, suc, ◌+◌, ◌-◌, ◌<◌, ◌≤◌, Bool, true, false, List, [], ◌∷◌, length, refl, sym, ap, ◌∙◌, subst, arith}
+use Rattle.std.proofs.Common.{◌≡◌, inl, inr, ◌⊎◌, ℕ, zero, suc, ◌+◌, ◌-◌, ◌<◌, ◌≤◌, Bool, true, false, List, [], ◌∷◌, length, refl, sym, ap, ◌∙◌, arith}
 use Rattle.std.specs.Prelude.{◌&&◌, if◌then◌else◌, replicate}
 use Rattle.std.proofs.lemmas.Bool.{cases_lt}
 use Rattle.std.proofs.lemmas.List.{length-replicate}
@@ -126,15 +126,13 @@ come_to_end (suc n) b m = elim (come_to_end n b (needs_of_block b m)) [ inl h �
         let end : needs_in n b more ≡ m = ap (needs_in n b) same ∙ no_more n b m same in
         inl (ap (needs_of_block b) end ∙ same ∙ sym end)
 
+pub needed_long : (vars : ℕ) (b : Block) → length (needed vars b) ≡ vars
+needed_long vars b = within_long (passes_within (suc vars) b (replicate vars false)) ∙ length-replicate vars false
+
 -- a pass over the block adds nothing to what it needs
 pub needed_closed : (vars : ℕ) (b : Block) → needs_of_block b (needed vars b) ≡ needed vars b
-needed_closed vars b = elim (come_to_end (suc vars) b start) [ inl h ↦ h | inr h ↦ absurd (omega (arith, h, count_within (needed vars b), long)) ]
-  where
-    start : List Bool
-    start = replicate vars false
-
-    long : length (needed vars b) ≡ vars
-    long = within_long (passes_within (suc vars) b start) ∙ length-replicate vars false
+needed_closed vars b =
+    elim (come_to_end (suc vars) b (replicate vars false)) [ inl h ↦ h | inr h ↦ absurd (omega (arith, h, count_within (needed vars b), needed_long vars b)) ]
 
 -- ---- the code's passes
 

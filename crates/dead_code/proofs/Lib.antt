@@ -6,3 +6,11 @@ pub mod Appends
 pub mod WorkedPrograms
 pub mod ClosedMarks
 pub mod LiveRuns
+pub mod LiveCounts
+pub mod LiveTurns
+pub mod ReachedRuns
+pub mod FirstZeroBlocks
+pub mod FirstZeroRuns
+pub mod LiveLeaves
+pub mod LivePrograms
+pub mod MadePrograms

@@ -3,10 +3,9 @@
 -- The relation: while both go on, the variables of the second run are the kept ones of the first, and both have the same
 -- events and turns left; where the first is over, the second is over with the same. Where the first has come to what C leaves
 -- undefined, the second may do anything, so what may be undefined can be dropped.
-use Rattle.std.proofs.Common.{◌≡◌, ℕ, zero, suc, Bool, true, false, List, [], ◌∷◌, ◌++◌, length, get_or, set, refl, sym, ap, ◌∙◌, subst, append-nil, true≢false}
-use Rattle.std.specs.Prelude.{◌&&◌, ◌==◌, not, nat_lt, slice_get, slice_index, bit_xor, if◌then◌else◌, Option, Some, None}
+use Rattle.std.proofs.Common.{◌≡◌, ℕ, zero, suc, Bool, true, false, List, [], ◌∷◌, length, set, refl, sym, ap, ◌∙◌, subst, append-nil}
+use Rattle.std.specs.Prelude.{◌&&◌, ◌==◌, not, nat_lt, slice_get, if◌then◌else◌, Option, Some, None}
 use Rattle.std.proofs.lemmas.List.{length-set}
-use Rattle.strm_num.specs.Words.{sum_of}
 use Rattle.list_denotation.specs.declared.event.Event.{Event}
 use Rattle.list_denotation.specs.declared.event.Event.TheVariants as event
 use Rattle.list_denotation.specs.declared.input.Input.{Input}
@@ -23,7 +22,7 @@ use Rattle.loop_ir.proofs.Joins.{run_join}
 use Rattle.dead_code.specs.Live.{ranks, number_in, renumbered, renumbered_test, is_nil, only_if, choice, live_statement, live}
 use Rattle.dead_code.specs.Needs.{is_marked, with_operand, with_test, is_idle, are_idle, needs_of_set, needs_of, needs_of_block}
 use Rattle.dead_code.proofs.ClosedMarks.{both_operands, both_tests, loop_parts, cons_parts, choice_parts, set_parts}
-use Rattle.dead_code.proofs.KeptVariables.{kept, rank, ranked, marked_within, kept_set, kept_unset, read_kept}
+use Rattle.dead_code.proofs.KeptVariables.{kept, ranked, marked_within, kept_set, kept_unset, read_kept}
 
 -- ---- values: none of them traps
 
@@ -206,6 +205,11 @@ module _ (m : List Bool) (numbers : List ℕ) where
     nil_idle Nil = refl
     nil_idle (Cons s ss) = nil_join (live_statement m numbers s) (live m numbers ss) ∙ ap (λ x. x && is_nil (live m numbers ss)) (nil_one s) ∙ ap (λ y. is_idle m s && y) (nil_idle ss)
 
+-- a choice that is kept isn't idle
+pub not_idle : (m : List Bool) (a b : Block) → is_nil (live m (ranks m) a) && is_nil (live m (ranks m) b) ≡ false → are_idle m a && are_idle m b ≡ false
+not_idle m a b some =
+    ap (λ x. x && are_idle m b) (sym (nil_idle m (ranks m) a)) ∙ ap (λ y. is_nil (live m (ranks m) a) && y) (sym (nil_idle m (ranks m) b)) ∙ some
+
 -- ---- statements and blocks
 
 then_nothing : (inputs : List Input) (o : Outcome) → then_do o (run inputs Nil) ≡ o
@@ -222,9 +226,10 @@ module _ (inputs : List Input) (m : List Bool) where
     set_long x = length-set env v x ∙ long
 
     set_marked : (x : ℕ) → is_marked m v ≡ true → IsKept m (Runs [] (set env v x) left) (Runs [] (set (kept m env) (number_in (ranks m) v) x) left)
-    set_marked x is =
-        (set_long x,
-        ap (λ e. Runs [] e left) (ap (λ n. set (kept m env) n x) (ranked m v (marked_within m v is)) ∙ sym (kept_set m env v x long is)))
+    set_marked x is = (
+      set_long x,
+      ap (λ e. Runs [] e left) (ap (λ n. set (kept m env) n x) (ranked m v (marked_within m v is)) ∙ sym (kept_set m env v x long is)),
+    )
 
     set_unmarked : (x : ℕ) → is_marked m v ≡ false → IsKept m (Runs [] (set env v x) left) (Runs [] (kept m env) left)
     set_unmarked x is = (set_long x, ap (λ e. Runs [] e left) (sym (kept_unset m env v x is)))
@@ -267,7 +272,7 @@ module _ (inputs : List Input) (m : List Bool) where
     one_kept (If t a b) h env left long =
         let parts = choice_parts t a b m h in
         choice_kept t (renumbered_test (ranks m) t) (live m (ranks m) a) (live m (ranks m) b) (run inputs a env left) (run inputs b env left) env (kept m env) left
-        (λ some. test_kept inputs m env long t (parts.test (ap (λ x. x && are_idle m b) (sym (nil_idle m (ranks m) a)) ∙ ap (λ y. is_nil (live m (ranks m) a) && y) (sym (nil_idle m (ranks m) b)) ∙ some)))
+        (λ some. test_kept inputs m env long t (parts.test (not_idle m a b some)))
         (block_kept a parts.first env left long) (block_kept b parts.second env left long)
     one_kept (Loop t body) h env left long =
         let parts = loop_parts t body m h in

@@ -1,6 +1,5 @@
 -- Other numbers for variables.
-use Rattle.std.proofs.Common.{◌≡◌, ℕ, List, [], refl, ap, ◌∙◌}
-use Rattle.loop_ir.specs.declared.syntax.WOp.{WOp}
+use Rattle.std.proofs.Common.{◌≡◌, [], refl, ap, ◌∙◌}
 use Rattle.loop_ir.specs.Statements.{Operand, Const, Var, Len, Int, Bin, Test, Less, Same, Both, Either, Not}
 use Rattle.dead_code.specs.Live.{renumbered, renumbered_test}
 

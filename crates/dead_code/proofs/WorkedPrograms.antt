@@ -3,7 +3,7 @@ use Rattle.std.specs.Prelude.{◌≡◌, refl, true, false, [], ◌∷◌}
 use Rattle.list_denotation.specs.declared.input.InputKind.TheVariants.{Array}
 use Rattle.loop_ir.specs.declared.syntax.Verdict.TheVariants.{Done, Trap}
 use Rattle.loop_ir.specs.declared.syntax.WOp.TheVariants as op
-use Rattle.loop_ir.specs.Statements.{Const, Var, Len, Bin, Less, Same, Set, Read, If, Loop, Emit, EndRow, Ret, Block, Nil, Cons, Routine}
+use Rattle.loop_ir.specs.Statements.{Const, Var, Len, Bin, Less, Same, Set, Read, If, Loop, Emit, EndRow, Ret, Nil, Cons, Routine}
 use Rattle.dead_code.specs.Ends.{reached}
 use Rattle.dead_code.specs.Needs.{needed}
 use Rattle.dead_code.specs.LiveRoutines.{live_routine}

@@ -1,5 +1,5 @@
 -- Variables start at 0, so setting one to 0 does nothing where no statement before has set it.
-use Rattle.std.specs.Prelude.{ℕ, Bool, true, false, not, ◌&&◌, ◌==◌, if◌then◌else◌, List}
+use Rattle.std.specs.Prelude.{Bool, false, not, ◌&&◌, ◌==◌, if◌then◌else◌, List}
 use Rattle.loop_ir.specs.Statements.{Operand, Const, Var, Len, Int, Bin, Statement, Set, Read, If, Loop, Emit, EndRow, Ret, Block, Nil, Cons}
 use Rattle.dead_code.specs.Needs.{is_marked, with_mark}
 

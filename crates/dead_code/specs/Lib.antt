@@ -3,3 +3,4 @@ pub mod Needs
 pub mod Live
 pub mod FirstZeros
 pub mod LiveRoutines
+pub mod Promises

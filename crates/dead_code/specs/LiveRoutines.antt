@@ -1,5 +1,5 @@
 -- A loop program without dead code.
-use Rattle.std.specs.Prelude.{ℕ, Bool, false, List, replicate}
+use Rattle.std.specs.Prelude.{Bool, false, List, replicate}
 use Rattle.loop_ir.specs.Statements.{Block, Routine}
 use Rattle.dead_code.specs.Ends.{reached}
 use Rattle.dead_code.specs.FirstZeros.{without_first_zeros}

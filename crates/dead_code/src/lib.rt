@@ -5,6 +5,7 @@
 
 mod cleaning;
 mod first_zeros;
+mod laws;
 mod live;
 mod needs;
 mod reached;
@@ -12,3 +13,4 @@ mod renumbering;
 mod statements;
 
 pub use cleaning::without_dead_code;
+pub use laws::{dead_code_does_nothing, live_programs_are_no_larger};

@@ -8,7 +8,9 @@ ghost use Rattle.dead_code.specs.Live.{number_in, renumbered, renumbered_test, o
 ghost use Rattle.dead_code.specs.Needs.{is_marked};
 
 use crate::needs::is_marked;
-use crate::statements::{push_emit, push_end, push_if, push_loop, push_read, push_return, push_set};
+use crate::statements::{
+    push_emit, push_end, push_if, push_loop, push_read, push_return, push_set,
+};
 use loop_ir::{Stmt, Stmts, T, W};
 use std::alloc::Global;
 use strm_num::NoMemory;
@@ -83,7 +85,11 @@ fn push_choice(
 #[cycle(live)]
 #[tactic(auto, using(crate::proofs::Appends::live_steps))]
 pub fn push_live_statement(
-    alloc: Global, s: &Stmt, kept: &Kept, made: &mut Stmts) -> Result<(), NoMemory>
+    alloc: Global,
+    s: &Stmt,
+    kept: &Kept,
+    made: &mut Stmts,
+) -> Result<(), NoMemory>
     ensures { OnOk result (Appends made.old made.new (live_statement kept.now.marks.items kept.now.numbers.items (statement_of s.now))) }
 {
     match s {

@@ -180,9 +180,10 @@ fn mark_all(body: &[Stmt], marks: &mut [bool])
 }
 
 /// Marks for the variables that statements need, of so many variables. The one error is `NoMemory`.
-#[tactic(auto, using(crate::proofs::Growth::all_passes))]
+#[tactic(auto, using(crate::proofs::Growth::all_passes, crate::proofs::Growth::needed_long))]
 pub fn needed(alloc: Global, vars: u32, body: &[Stmt]) -> Result<Vec<bool>, NoMemory>
-    ensures { IfOk result (λ marks. marks.items ≡ needed vars (block_of body.now)) }
+    ensures marks { IfOk result (λ marks. marks.items ≡ needed vars (block_of body.now)) }
+    ensures long { IfOk result (λ marks. length marks.items ≡ vars) }
 {
     let mut marks = no_marks(alloc, vars)?;
     mark_all(body, &mut marks);

@@ -7,7 +7,9 @@ ghost use Rattle.expr_phrases.specs.PhraseCopies.{Appends};
 ghost use Rattle.loop_ir.specs.StatementCopies.{statement_of, block_of};
 ghost use Rattle.dead_code.specs.Ends.{statement_ends, block_ends, reached_statement, reached};
 
-use crate::statements::{push_emit, push_end, push_if, push_loop, push_read, push_return, push_set};
+use crate::statements::{
+    push_emit, push_end, push_if, push_loop, push_read, push_return, push_set,
+};
 use loop_ir::{Stmt, Stmts};
 use std::alloc::Global;
 use strm_num::NoMemory;

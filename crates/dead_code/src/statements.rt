@@ -79,12 +79,7 @@ pub fn push_loop(
 
 /// Appends a statement that writes a word.
 #[tactic(auto, using(crate::proofs::Appends::push_steps))]
-pub fn push_emit(
-    alloc: Global,
-    w: &W,
-    numbers: &[u32],
-    made: &mut Stmts,
-) -> Result<(), NoMemory>
+pub fn push_emit(alloc: Global, w: &W, numbers: &[u32], made: &mut Stmts) -> Result<(), NoMemory>
     ensures { OnOk result (Appends made.old made.new
         (Cons (Emit (renumbered numbers.now (operand_of w.now))) Nil)) }
 {

@@ -8,7 +8,7 @@ use Rattle.loop_ir.specs.DeclaredNames.{Names, is_named_leaf, block_names}
 use Rattle.loop_ir.specs.Constants.{is_word_leaf, block_has_words}
 use Rattle.loop_ir.specs.Counts.{block_count, block_loops, block_nest}
 
-leaves_joined : (test : Operand → Bool) (a b : Block) → IsTrue (block_leaves test a) → IsTrue (block_leaves test b) → IsTrue (block_leaves test (join a b))
+pub leaves_joined : (test : Operand → Bool) (a b : Block) → IsTrue (block_leaves test a) → IsTrue (block_leaves test b) → IsTrue (block_leaves test (join a b))
 leaves_joined test Nil b h k = k
 leaves_joined test (Cons s ss) b h k =
     let parts = both_true (statement_leaves test s) (block_leaves test ss) h in

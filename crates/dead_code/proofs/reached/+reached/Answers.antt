@@ -12,13 +12,13 @@ push_reached-loop-i-preserved t c = record {
       (elim c.if-branch.branch [ push_reached-then-branch+else-no_loop_behind w ↦ second_false _ _ w.if-no_loop_behind.ensures | push_reached-else-branch w ↦ first_false _ _ (sym c.in_ok-push_reached_statement.ensures.ends ∙ w.if-branch.false) ])
       ∙ c.loop-i.invariant.whole;
   over = elim c.if-branch.branch [
-      push_reached-then-branch+else-no_loop_behind w ↦
-      ap (λ e. e || block_ends (block_of (drop (c.loop-i.i + 1) c.args.body.now))) w.ends-is
-      ∙ ends_here c.loop-i.ends c.in_ok-push_reached_statement.field-0 (block_ends (block_of c.args.body.now)) c.args.body.now c.loop-i.i c.index-body-i.result c.loop-i-test.true c.index-body-i.is c.in_ok-push_reached_statement.ensures.ends w.if-branch.true c.loop-i.invariant.over
-      | push_reached-else-branch w ↦
-      ap (λ e. e || block_ends (block_of (drop (c.loop-i.i + 1) c.args.body.now))) w.ends-is
-      ∙ ends_later c.loop-i.ends c.in_ok-push_reached_statement.field-0 (block_ends (block_of c.args.body.now)) c.args.body.now c.loop-i.i c.index-body-i.result c.loop-i-test.true c.index-body-i.is c.in_ok-push_reached_statement.ensures.ends w.if-branch.false c.loop-i.invariant.over
-      ];
+    | push_reached-then-branch+else-no_loop_behind w ↦
+        ap (λ e. e || block_ends (block_of (drop (c.loop-i.i + 1) c.args.body.now))) w.ends-is
+        ∙ ends_here c.loop-i.ends c.in_ok-push_reached_statement.field-0 (block_ends (block_of c.args.body.now)) c.args.body.now c.loop-i.i c.index-body-i.result c.loop-i-test.true c.index-body-i.is c.in_ok-push_reached_statement.ensures.ends w.if-branch.true c.loop-i.invariant.over
+    | push_reached-else-branch w ↦
+        ap (λ e. e || block_ends (block_of (drop (c.loop-i.i + 1) c.args.body.now))) w.ends-is
+        ∙ ends_later c.loop-i.ends c.in_ok-push_reached_statement.field-0 (block_ends (block_of c.args.body.now)) c.args.body.now c.loop-i.i c.index-body-i.result c.loop-i-test.true c.index-body-i.is c.in_ok-push_reached_statement.ensures.ends w.if-branch.false c.loop-i.invariant.over
+  ];
 }
 
 pub push_reached-returns-then-no_loop_behind-clause-made : goal.push_reached-returns-then-no_loop_behind-clause-made
