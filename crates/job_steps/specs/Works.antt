@@ -55,9 +55,10 @@ status_at n (Failed Stuck) = status.Undefined
 abbrev pub IsSeen : ℕ → Seen → Status → List ℕ → Type 0
 IsSeen n seen end text = (end ≡ status_at n seen.standing) × (text ≡ events_text seen.events)
 
--- the status and the text are those of a program of the pipeline
+-- the status and the text are those of a program of the pipeline, which names nothing that it doesn't declare
 pub record IsRun (p : Pipeline) (inputs : List Input) (n : ℕ) (end : Status) (text : List ℕ) : Type 0 where
   pub routine : Routine
+  pub well_formed : IsWellFormed routine
   pub emitted : IsEmitted p routine
   pub seen : IsSeen n (meaning routine inputs n) end text
 

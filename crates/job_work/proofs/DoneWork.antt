@@ -9,6 +9,7 @@ use Rattle.list_denotation.specs.Work.{work}
 use Rattle.headline.specs.Headline.{IsEmitted}
 use Rattle.loop_ir.specs.Meaning.{meaning}
 use Rattle.loop_ir.specs.Statements.{Routine}
+use Rattle.loop_ir.specs.WellFormed.{IsWellFormed}
 use Rattle.pipe_limits.specs.declared.TheConstants.{MOST_WORK}
 use Rattle.status_lines.specs.declared.statuses.Status.{Status}
 use Rattle.status_lines.specs.declared.statuses.Status.TheVariants.{Missing, ReadFault, WriteFault, NoMemory}
@@ -25,9 +26,9 @@ does_more ends ends' out out' faults faults' (ReadFault name) more h = h
 does_more ends ends' out out' faults faults' s more h = (h.0, (more s h.0 h.1.0, h.1.1))
 
 -- a run of a program of the pipeline is one of the pipeline
-pub runs : (p : Pipeline) (q : Routine) (inputs : List Input) (n : ℕ) (out out' : Option (List ℕ)) (faults faults' : ℕ) (s : Status) → IsEmitted p q → Does (IsSeen n (meaning q inputs n)) out out' faults faults' s → Does (IsRun p inputs n) out out' faults faults' s
-runs p q inputs n out out' faults faults' s emitted =
-    does_more (IsSeen n (meaning q inputs n)) (IsRun p inputs n) out out' faults faults' s (λ t text seen. record { routine = q; emitted = emitted; seen = seen })
+pub runs : (p : Pipeline) (q : Routine) (inputs : List Input) (n : ℕ) (out out' : Option (List ℕ)) (faults faults' : ℕ) (s : Status) → IsWellFormed q → IsEmitted p q → Does (IsSeen n (meaning q inputs n)) out out' faults faults' s → Does (IsRun p inputs n) out out' faults faults' s
+runs p q inputs n out out' faults faults' s well_formed emitted =
+    does_more (IsSeen n (meaning q inputs n)) (IsRun p inputs n) out out' faults faults' s (λ t text seen. record { routine = q; well_formed = well_formed; emitted = emitted; seen = seen })
 
 too_much : (n : ℕ) (standing : Standing) → status.TooMuch ≡ status_at n standing → ⊥
 too_much n Done e = absurd cc
