@@ -17,3 +17,4 @@ pub mod MadeLoops
 pub mod MadePrograms
 pub mod MachineRoom
 pub mod Compiled
+pub mod LivePrograms

@@ -1,6 +1,8 @@
 -- The laws of the crates below that the emission rests on.
 use Rattle.denotation_laws.specs.Promises.{ArraysHaveFewItems, BoundExpressionsStayBound}
+use Rattle.dead_code.specs.Promises.{DeadCodeDoesNothing, LiveProgramsAreNoLarger}
 use Rattle.denotation_laws.specs.Promises.{FarIsTransitive, IntInputsAreWords, ItemsAreWords}
+use Rattle.denotation_laws.specs.Promises.{NoObservationIsStuck}
 use Rattle.denotation_laws.specs.Promises.{TerminalsKeepFar, TypedProgramsReadTheirScopes}
 use Rattle.denotation_laws.specs.Promises.{TypedStreamsHaveTheWidthOfTheirKinds}
 use Rattle.denotation_laws.specs.Promises.{UndividedExpressionsHaveValues}
@@ -58,3 +60,7 @@ pub record Laws : Type 0 where
   pub fold_names : FoldingNamesItsWords
   pub print_constants : PrintingHasWordConstants
   pub fold_constants : FoldingHasWordConstants
+  -- of loop programs without their dead code
+  pub never_stuck : NoObservationIsStuck
+  pub dead_code : DeadCodeDoesNothing
+  pub no_larger : LiveProgramsAreNoLarger

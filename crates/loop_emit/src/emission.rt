@@ -22,6 +22,7 @@ use crate::openings::put_openings;
 use crate::terminals::{
     finish_temps, held_count, put_ending, put_finish_openings, turn_for, width,
 };
+use dead_code::without_dead_code;
 use expr_lower::temps_of;
 use list_denotation::{Program, Terminal};
 use loop_ir::{Prog, Stmts};
@@ -171,8 +172,18 @@ fn program_body(alloc: Global, p: &Program, c: &Core) -> Result<(Stmts, u32), No
     statements(alloc, &machine, &p.terminal, temps)
 }
 
+// The program of a machine, with the pipeline's inputs as its parameters.
+fn machine_program(alloc: Global, p: &Program, c: &Core) -> Result<Prog, NoMemory>
+    requires { IsCoreFor (pipeline_of p.now) (core_term_of c.now) }
+    ensures { IfOk result (λ q. IsEmitted (pipeline_of p.now) (routine_of q)) }
+{
+    let (body, vars) = program_body(alloc, p, c)?;
+    let params = List::from_slice(alloc, p.inputs.as_slice())?;
+    Ok(Prog { params, vars, body })
+}
+
 /// The loop program of a pipeline, made of a core term for its stream: one loop over the state of the
-/// term's machine, in which each row is printed or folded.
+/// term's machine, in which each row is printed or folded, without dead code.
 ///
 /// Run n turns, the program goes no further than the pipeline's lists at n pulls, and run as many
 /// turns as the lists' work, it goes as far as they do. It has few variables, and the pipeline's
@@ -181,7 +192,7 @@ pub fn emit(alloc: Global, p: &Program, c: &Core) -> Result<Prog, NoMemory>
     requires { IsCoreFor (pipeline_of p.now) (core_term_of c.now) }
     ensures { IfOk result (λ q. IsEmitted (pipeline_of p.now) (routine_of q)) }
 {
-    let (body, vars) = program_body(alloc, p, c)?;
-    let params = List::from_slice(alloc, p.inputs.as_slice())?;
-    Ok(Prog { params, vars, body })
+    laws_below();
+    let whole = machine_program(alloc, p, c)?;
+    without_dead_code(alloc, &whole)
 }

@@ -1,11 +1,15 @@
-use Rattle.std.proofs.Common.{sym, subst, ◌∙◌}
+use Rattle.std.proofs.Common.{sym, subst}
+use Rattle.std.proofs.lemmas.Result.{IfOk-weaker}
+use Rattle.list_denotation.specs.Pipelines.{pipeline_of}
+use Rattle.headline.specs.Headline.{IsEmitted}
 use Rattle.loop_ir.specs.StatementCopies.{routine_from}
-use Rattle.loop_ir.specs.WellFormed.{IsWellFormed}
+use Rattle.loop_emit.proofs.LivePrograms.{live_emitted}
 use Rattle.loop_emit.proofs.emission.emit.Goals as goal
 
-pub invariant_of-result : goal.invariant_of-result
-invariant_of-result c = record {
-  well_formed =
-      subst (λ inputs. IsWellFormed (routine_from inputs c.in_ok-body.vars c.in_ok-body.body)) (sym (c.in_ok-params.ensures ∙ c.as_slice.ensures))
-      c.in_ok-body.ensures.well_formed;
-}
+pub returns : goal.returns
+returns c =
+    let p = pipeline_of c.args.p.now in
+    let whole = c.in_ok-whole.whole in
+    IfOk-weaker c.without_dead_code.result _ _
+    (λ q is. subst (IsEmitted p) (sym is) (live_emitted c.laws_below.ensures p (routine_from whole.params whole.vars whole.body) c.in_ok-whole.ensures))
+    c.without_dead_code.ensures

@@ -36,4 +36,7 @@ returns c = record {
   fold_names = c.rows_are_taken.ensures.fold_names;
   print_constants = c.rows_are_taken.ensures.print_constants;
   fold_constants = c.rows_are_taken.ensures.fold_constants;
+  never_stuck = c.no_observation_is_stuck.ensures;
+  dead_code = c.dead_code_does_nothing.ensures.meaning;
+  no_larger = c.live_programs_are_no_larger.ensures.sizes;
 }
