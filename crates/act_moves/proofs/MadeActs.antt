@@ -1,5 +1,5 @@
 -- Acts that the code appends one by one.
-use Rattle.std.proofs.Common.{rules, ◌≡◌, ℕ, false, ◌+◌, ◌<◌, ◌≤◌, List, [], ◌∷◌, ◌++◌, length, drop, get_or, refl, sym, ap, ◌∙◌, subst}
+use Rattle.std.proofs.Common.{◌≡◌, ℕ, false, ◌+◌, ◌<◌, ◌≤◌, List, [], ◌∷◌, ◌++◌, length, drop, get_or, sym, ap, ◌∙◌, subst}
 use Rattle.std.specs.Prelude.{Result, OnOk}
 use Rattle.std.proofs.lemmas.Result.{on_ok_weaker}
 use Rattle.std.proofs.lemmas.List.{drop_all, at_drop_more}
@@ -7,7 +7,7 @@ use Rattle.list_denotation.specs.declared.expr.Expr.{Expr}
 use Rattle.list_denotation.specs.declared.expr.Expr.TheVariants as expr
 use Rattle.list_denotation.specs.Copies.{term_of, terms_of}
 use Rattle.list_denotation.specs.Terms.{Term, Lit}
-use Rattle.stateful_core.specs.declared.core_term.Act.{Act, the_lemmas}
+use Rattle.stateful_core.specs.declared.core_term.Act.{Act}
 use Rattle.stateful_core.specs.declared.core_term.Act.TheVariants as act
 use Rattle.stateful_core.specs.CoreCopies.{action_of, actions_of}
 use Rattle.stateful_core.specs.StreamCores.{set_state}
@@ -15,18 +15,7 @@ use Rattle.stateful_core.specs.CoreTerms.{Action, Let, Read, KeepIf, StopUnless,
 use Rattle.act_moves.specs.Flags.{skip_with, close_unless}
 use Rattle.act_moves.specs.Renumbering.{renumber, renumber_row, move_action, move_actions}
 use Rattle.act_moves.specs.WordRoom.{StaysBelow, StayBelow}
-
-pub join_join : (a b c : Actions) → join (join a b) c ≡ join a (join b c)
-join_join Nil b c = refl
-join_join (Cons s a) b c = ap (λ z. Cons s z) (join_join a b c)
-
-join_nil : (a : Actions) → join a Nil ≡ a
-join_nil Nil = refl
-join_nil (Cons s a) = ap (λ z. Cons s z) (join_nil a)
-
-pub acts_push : (acts : List Act) (a : Act) → actions_of (acts ++ a ∷ []) ≡ join (actions_of acts) (Cons (action_of a) Nil)
-acts_push [] a = refl
-acts_push (x ∷ acts) a = ap (λ z. Cons (action_of x) z) (acts_push acts a)
+use Rattle.stateful_core.proofs.ActCopies.{let_copy, read_copy, keep_copy, stop_copy, update_copy, when_copy, join_join, join_nil, act_push}
 
 -- what is left at a place begins with the item there
 pub at_index : (acts : List Act) (i : ℕ) (a : Act) → i < length acts → a ≡ get_or acts i a → drop i acts ≡ a ∷ drop (i + 1) acts
@@ -51,28 +40,10 @@ pub ruleset move_steps = (move_step, move_end, acts_below)
 
 -- ---- one act
 
-let_copy : (e : Expr) → action_of (act.Let e) ≡ Let (term_of e)
-let_copy e = search (rules, the_lemmas)
-
-read_copy : (k : ℕ) (e : Expr) → action_of (act.Read k e) ≡ Read k (term_of e)
-read_copy k e = search (rules, the_lemmas)
-
-keep_copy : (e : Expr) → action_of (act.KeepIf e) ≡ KeepIf (term_of e)
-keep_copy e = search (rules, the_lemmas)
-
-stop_copy : (e : Expr) → action_of (act.StopUnless e) ≡ StopUnless (term_of e)
-stop_copy e = search (rules, the_lemmas)
-
-pub update_copy : (k : ℕ) (es : List Expr) → action_of (act.Update k es) ≡ Update k (terms_of es)
-update_copy k es = search (rules, the_lemmas)
-
-pub when_copy : (e : Expr) (a b : List Act) → action_of (act.When e a b) ≡ When (term_of e) (actions_of a) (actions_of b)
-when_copy e a b = search (rules, the_lemmas)
-
 -- an act that was pushed, where it is another one moved
 module _ (f : ℕ → ℕ) (k : ℕ) (halt : Term → Action) {A E : Type 0} (r : Result A E) (old now : List Act) (x : Act) where
   pushed : (y : Act) → action_of y ≡ move_action f k halt (action_of x) → OnOk r (now ≡ old ++ y ∷ []) → OnOk r (actions_of now ≡ join (actions_of old) (Cons (move_action f k halt (action_of x)) Nil))
-  pushed y q h = on_ok_weaker r (λ e. ap actions_of e ∙ acts_push old y ∙ ap (λ z. join (actions_of old) (Cons z Nil)) q) h
+  pushed y q h = on_ok_weaker r (λ e. ap actions_of e ∙ act_push old y ∙ ap (λ z. join (actions_of old) (Cons z Nil)) q) h
 
   pub let_pushed : (e c : Expr) → x ≡ act.Let e → term_of c ≡ renumber f (term_of e) → OnOk r (now ≡ old ++ act.Let c ∷ []) → OnOk r (actions_of now ≡ join (actions_of old) (Cons (move_action f k halt (action_of x)) Nil))
   let_pushed e c is q h = pushed (act.Let c) (let_copy c ∙ ap Let q ∙ sym (ap (move_action f k halt) (ap action_of is ∙ let_copy e))) h
@@ -101,17 +72,17 @@ module _ (f : ℕ → ℕ) (k : ℕ) (halt : Term → Action) {A E : Type 0} (r 
 -- ---- acts that set a flag, and end the turn
 
 pub stop_push : (made : List Act) (e : Expr) → actions_of (made ++ act.StopUnless e ∷ []) ≡ join (actions_of made) (Cons (StopUnless (term_of e)) Nil)
-stop_push made e = acts_push made (act.StopUnless e) ∙ ap (λ z. join (actions_of made) (Cons z Nil)) (stop_copy e)
+stop_push made e = act_push made (act.StopUnless e) ∙ ap (λ z. join (actions_of made) (Cons z Nil)) (stop_copy e)
 
 pub skip_push : (old : Actions) (made : List Act) (flag : ℕ) → actions_of made ≡ join old (set_state (Lit flag ∷ [])) → actions_of (made ++ act.KeepIf (expr.Truth false) ∷ []) ≡ join old (skip_with flag)
 skip_push old made flag h =
-    acts_push made (act.KeepIf (expr.Truth false)) ∙ ap (λ z. join z (Cons (action_of (act.KeepIf (expr.Truth false))) Nil)) h
+    act_push made (act.KeepIf (expr.Truth false)) ∙ ap (λ z. join z (Cons (action_of (act.KeepIf (expr.Truth false))) Nil)) h
     ∙ join_join old (set_state (Lit flag ∷ [])) (Cons (action_of (act.KeepIf (expr.Truth false))) Nil)
     ∙ ap (λ z. join old (Cons (Update 0 (Lit flag ∷ [])) (Cons z Nil))) (keep_copy (expr.Truth false))
 
 pub close_push : (start none close made : List Act) (e : Expr) → start ≡ [] → none ≡ [] → actions_of close ≡ join (actions_of start) (skip_with 0) → actions_of (made ++ act.When e none close ∷ []) ≡ join (actions_of made) (Cons (close_unless (term_of e)) Nil)
 close_push start none close made e s n h =
-    acts_push made (act.When e none close)
+    act_push made (act.When e none close)
     ∙ ap (λ z. join (actions_of made) (Cons z Nil))
     (when_copy e none close ∙ ap (λ z. When (term_of e) (actions_of z) (actions_of close)) n
     ∙ ap (λ z. When (term_of e) Nil z) (h ∙ ap (λ z. join (actions_of z) (skip_with 0)) s))

@@ -1,20 +1,11 @@
--- Machines over different states whose turns are alike give the same rows.
+-- Machines over different states whose turns are alike give the same rows, and so do stages over rows.
 use Rattle.std.proofs.Common.{◌≡◌, ℕ, zero, suc, List, refl, ap, ◌∙◌, subst}
 use Rattle.list_denotation.specs.Values.{Fault, choice}
 use Rattle.list_denotation.specs.Rows.{End, Cut, Rows, Ends, Row}
-use Rattle.stateful_core.specs.Turns.{Turn, Gives, Skips, Stops, Breaks, after_turn, turn_rows}
+use Rattle.denotation_laws.specs.RowWords.{EachRow}
+use Rattle.stateful_core.specs.Turns.{Turn, Gives, Skips, Stops, Breaks, after_turn, turn_rows, stage_rows}
+use Rattle.machine_turns.specs.AlikeTurns.{AlikeTurns, both_give, both_skip, both_stop, both_break, SameTruth}
 use Rattle.machine_turns.specs.MachineRuns.{Runs, pauses, ends, stops, breaks, skips, gives}
-
--- two turns end alike, with states of which R holds
-pub data AlikeTurns {A B : Type 0} (R : A → B → Type 0) : Turn A → Turn B → Type 0 where
-  both_give : (r : List ℕ) {x : A} {y : B} → R x y → AlikeTurns R (Gives r x) (Gives r y)
-  both_skip : {x : A} {y : B} → R x y → AlikeTurns R (Skips x) (Skips y)
-  both_stop : AlikeTurns R Stops Stops
-  both_break : (f : Fault) → AlikeTurns R (Breaks f) (Breaks f)
-
--- two words that are both true or both false
-abbrev pub SameTruth : ℕ → ℕ → Type 0
-SameTruth a b = choice {A = ℕ} a 0 1 ≡ choice b 0 1
 
 same_choice : {A : Type 0} (a b : ℕ) (p q : A) → SameTruth a b → choice a p q ≡ choice b p q
 same_choice zero zero p q e = refl
@@ -84,3 +75,13 @@ module _ {A B : Type 0} (R : A → B → Type 0) where
     alike_runs (gives y w g r q rows e k l) x h =
         let t = also_true (guard x) (guard' y) g (guards x y h) e in
         let u = also_gives r q (turns x y h) k in gives x w t.0 r u.0 rows t.1 u.1 (alike_runs l u.0 u.2)
+
+  -- stages over the same rows, of which P holds
+  module _ (P : List ℕ → Type 0) (guard : A → ℕ) (takes : A → List ℕ → Turn A) (guard' : B → ℕ) (takes' : B → List ℕ → Turn B)
+      (guards : (x : A) (y : B) → R x y → SameTruth (guard x) (guard' y)) (turns : (r : List ℕ) → P r → (x : A) (y : B) → R x y → AlikeTurns R (takes x r) (takes' y r)) where
+    pub alike_stages : (rows : Rows) → EachRow P rows → (x : A) (y : B) → R x y → stage_rows guard takes x rows ≡ stage_rows guard' takes' y rows
+    alike_stages (Ends e) each x y h = same_choice (guard x) (guard' y) (Ends End) (Ends e) (guards x y h)
+    alike_stages (Row r rest) each x y h =
+        same_choice (guard x) (guard' y) (Ends End) (after_turn (takes x r) (λ z. stage_rows guard takes z rest)) (guards x y h)
+        ∙ ap (λ z. choice (guard' y) (Ends End) z)
+        (alike_after (λ z. stage_rows guard takes z rest) (λ z. stage_rows guard' takes' z rest) (λ p q k. alike_stages rest each.1 p q k) (turns r each.0 x y h))

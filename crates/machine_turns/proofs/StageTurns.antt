@@ -1,12 +1,12 @@
 -- A machine and a stage over its rows in one: it has the rows that the stage makes of those of the machine, and reaches them in
--- as many turns.
+-- as many turns. So has a stage for a stage and another one over its rows.
 use Rattle.std.proofs.Common.{◌≡◌, ℕ, zero, suc, List, refl, sym, ap}
 use Rattle.list_denotation.specs.Values.{choice}
-use Rattle.list_denotation.specs.Rows.{End, Cut, Broken, Rows, Ends, Row}
+use Rattle.list_denotation.specs.Rows.{Ending, End, Cut, Broken, Rows, Ends, Row}
 use Rattle.denotation_laws.specs.FarRows.{FarRows, CutOff, SameEnd, SameRow}
 use Rattle.stateful_core.specs.Turns.{Turn, Gives, Skips, Stops, Breaks, after_turn, turn_rows, stage_rows}
 use Rattle.machine_turns.specs.MachineRuns.{Runs, pauses, ends, stops, breaks, skips, gives}
-use Rattle.machine_turns.specs.StageTurns.{with_state, join_turn, join_guard, join_step}
+use Rattle.machine_turns.specs.StageTurns.{with_state, join_turn, join_guard, join_takes, join_step}
 
 -- ---- how far a stage is
 
@@ -31,13 +31,40 @@ module _ {T : Type 0} (opens : T → ℕ) (takes : T → List ℕ → Turn T) wh
   stage_far t (SameEnd e) = choice_far (opens t) _ _ _ _ (SameEnd End) (SameEnd e)
   stage_far t (SameRow r h) = choice_far (opens t) _ _ _ _ (SameEnd End) (after_far (takes t r) _ _ (λ q. stage_far q h))
 
-module _ {S T : Type 0} (guard : S → ℕ) (turn : S → Turn S) (opens : T → ℕ) (takes : T → List ℕ → Turn T) where
-  abbrev JoinRuns : Rows → S × T → ℕ → Type 0
-  JoinRuns = Runs (join_guard guard opens) (join_step turn takes)
+-- ---- what a stage makes of the rows behind a turn
 
+module _ {T : Type 0} (opens : T → ℕ) (takes : T → List ℕ → Turn T) where
+  -- where its guard is false all is over
   stage_shut : (t : T) (rows : Rows) → opens t ≡ 0 → stage_rows opens takes t rows ≡ Ends End
   stage_shut t (Ends e) h = rw h refl
   stage_shut t (Row r rows) h = rw h refl
+
+  join_end : (e : Ending) (t : T) (h g : ℕ) → opens t ≡ h → choice (choice h 0 g) (Ends End) (Ends e) ≡ stage_rows opens takes t (choice g (Ends End) (Ends e))
+  join_end e t zero g o = sym (stage_shut t _ o)
+  join_end e t (suc k) zero o = rw o refl
+  join_end e t (suc k) (suc g) o = rw o refl
+
+  module _ {S : Type 0} (f : S × T → Rows) (l : S → Rows) (behind : (s : S) (v : T) → f (s, v) ≡ stage_rows opens takes v (l s)) where
+    join_row : (q : S) (u : Turn T) → after_turn (with_state u q) f ≡ after_turn u (λ v. stage_rows opens takes v (l q))
+    join_row q (Gives p v) = ap (Row p) (behind q v)
+    join_row q (Skips v) = behind q v
+    join_row q Stops = refl
+    join_row q (Breaks y) = refl
+
+    join_open : (t : T) (k g : ℕ) (u : Turn S) → opens t ≡ suc k → choice g (Ends End) (after_turn (join_turn u takes t) f) ≡ stage_rows opens takes t (choice g (Ends End) (after_turn u l))
+    join_open t k zero u o = rw o refl
+    join_open t k (suc g) (Gives r q) o = rw o (join_row q (takes t r))
+    join_open t k (suc g) (Skips q) o = behind q t
+    join_open t k (suc g) Stops o = rw o refl
+    join_open t k (suc g) (Breaks y) o = rw o refl
+
+    join_next : (t : T) (h g : ℕ) (u : Turn S) → opens t ≡ h → choice (choice h 0 g) (Ends End) (after_turn (join_turn u takes t) f) ≡ stage_rows opens takes t (choice g (Ends End) (after_turn u l))
+    join_next t zero g u o = sym (stage_shut t _ o)
+    join_next t (suc k) g u o = join_open t k g u o
+
+module _ {S T : Type 0} (guard : S → ℕ) (turn : S → Turn S) (opens : T → ℕ) (takes : T → List ℕ → Turn T) where
+  abbrev JoinRuns : Rows → S × T → ℕ → Type 0
+  JoinRuns = Runs (join_guard guard opens) (join_step turn takes)
 
   guard_open : (s : S) (t : T) (g k : ℕ) → guard s ≡ g → opens t ≡ suc k → join_guard guard opens (s, t) ≡ g
   guard_open s t g k e h = rw (h, e) refl
@@ -62,7 +89,7 @@ module _ {S T : Type 0} (guard : S → ℕ) (turn : S → Turn S) (opens : T →
   stage_choice t x = go (opens t) refl
     where
       go : (h : ℕ) → opens t ≡ h → stage_rows opens takes t x ≡ choice h (Ends End) (stage_rows opens takes t x)
-      go zero e = stage_shut t x e
+      go zero e = stage_shut opens takes t x e
       go (suc k) e = refl
 
   pub join_runs : {x : Rows} {s : S} {w : ℕ} → Runs guard turn x s w → (t : T) → JoinRuns (stage_rows opens takes t x) (s, t) w
@@ -79,28 +106,12 @@ module _ {S T : Type 0} (guard : S → ℕ) (turn : S → Turn S) (opens : T →
 
   -- ---- the rows are those of the stage
 
-  join_end : (s : S) (t : T) (h g : ℕ) → opens t ≡ h → choice (choice h 0 g) (Ends End) (Ends Cut) ≡ stage_rows opens takes t (choice g (Ends End) (Ends Cut))
-  join_end s t zero g o = sym (stage_shut t _ o)
-  join_end s t (suc k) zero o = rw o refl
-  join_end s t (suc k) (suc g) o = rw o refl
-
-  join_row : (q : S) (f : S × T → Rows) (x : Rows) (u : Turn T) → ((v : T) → f (q, v) ≡ stage_rows opens takes v x) → after_turn (with_state u q) f ≡ after_turn u (λ v. stage_rows opens takes v x)
-  join_row q f x (Gives p v) k = ap (Row p) (k v)
-  join_row q f x (Skips v) k = k v
-  join_row q f x Stops k = refl
-  join_row q f x (Breaks y) k = refl
-
-  join_open : (t : T) (k : ℕ) (g : ℕ) (u : Turn S) (f : S × T → Rows) (l : S → Rows) → opens t ≡ suc k → ((s : S) (v : T) → f (s, v) ≡ stage_rows opens takes v (l s)) → choice g (Ends End) (after_turn (join_turn u takes t) f) ≡ stage_rows opens takes t (choice g (Ends End) (after_turn u l))
-  join_open t k zero u f l o h = rw o refl
-  join_open t k (suc g) (Gives r q) f l o h = rw o (join_row q f (l q) (takes t r) (λ v. h q v))
-  join_open t k (suc g) (Skips q) f l o h = h q t
-  join_open t k (suc g) Stops f l o h = rw o refl
-  join_open t k (suc g) (Breaks y) f l o h = rw o refl
-
-  join_next : (n : ℕ) (s : S) (t : T) (ih : (q : S) (v : T) → turn_rows (join_guard guard opens) (join_step turn takes) n (q, v) ≡ stage_rows opens takes v (turn_rows guard turn n q)) → (h : ℕ) → opens t ≡ h → choice (choice (opens t) 0 (guard s)) (Ends End) (after_turn (join_turn (turn s) takes t) (λ p. turn_rows (join_guard guard opens) (join_step turn takes) n p)) ≡ stage_rows opens takes t (choice (guard s) (Ends End) (after_turn (turn s) (λ q. turn_rows guard turn n q)))
-  join_next n s t ih zero o = rw (o, stage_shut t _ o) refl
-  join_next n s t ih (suc k) o = rw o (join_open t k (guard s) (turn s) _ _ o ih)
-
   pub join_rows_of : (n : ℕ) (s : S) (t : T) → turn_rows (join_guard guard opens) (join_step turn takes) n (s, t) ≡ stage_rows opens takes t (turn_rows guard turn n s)
-  join_rows_of zero s t = join_end s t (opens t) (guard s) refl
-  join_rows_of (suc n) s t = join_next n s t (λ q v. join_rows_of n q v) (opens t) refl
+  join_rows_of zero s t = join_end opens takes Cut t (opens t) (guard s) refl
+  join_rows_of (suc n) s t = join_next opens takes _ (λ q. turn_rows guard turn n q) (λ q v. join_rows_of n q v) t (opens t) (guard s) (turn s) refl
+
+module _ {S T : Type 0} (guard : S → ℕ) (lower : S → List ℕ → Turn S) (opens : T → ℕ) (takes : T → List ℕ → Turn T) where
+  -- two stages in one make of rows what the second makes of those of the first
+  pub join_stages_of : (rows : Rows) (s : S) (t : T) → stage_rows (join_guard guard opens) (join_takes lower takes) (s, t) rows ≡ stage_rows opens takes t (stage_rows guard lower s rows)
+  join_stages_of (Ends e) s t = join_end opens takes e t (opens t) (guard s) refl
+  join_stages_of (Row r rows) s t = join_next opens takes _ (λ q. stage_rows guard lower q rows) (λ q v. join_stages_of rows q v) t (opens t) (guard s) (lower s r) refl

@@ -1,4 +1,5 @@
 pub mod MachineRuns
+pub mod AlikeTurns
 pub mod StageTurns
 pub mod NestTurns
 pub mod ZipTurns

@@ -6,7 +6,7 @@ use Rattle.denotation_laws.specs.FarRows.{FarRows}
 use Rattle.denotation_laws.specs.RowWords.{EachRow}
 use Rattle.stateful_core.specs.Turns.{Turn, turn_rows, turn_count, stage_rows}
 use Rattle.machine_turns.specs.MachineRuns.{Runs}
-use Rattle.machine_turns.specs.StageTurns.{join_guard, join_step}
+use Rattle.machine_turns.specs.StageTurns.{join_guard, join_takes, join_step}
 use Rattle.machine_turns.specs.NestTurns.{Closed, nest_guard, nest_step}
 use Rattle.machine_turns.specs.ZipTurns.{LeftDue, zip_guard, zip_step}
 
@@ -23,13 +23,21 @@ MachinesReachTheirRows =
     → Runs guard turn (turn_rows guard turn n s) s (turn_count guard turn n s + 1)
 
 -- A stage over a machine: the rows of both in one are what the stage makes of those of the machine,
--- and they are reached in as many turns. What a stage makes of rows is as far as these.
+-- and they are reached in as many turns. So too a stage over another one, for any rows. What a stage
+-- makes of rows is as far as these.
 abbrev pub StagesMakeTheirRowsOfMachines : Type 0
 StagesMakeTheirRowsOfMachines =
     (guard : List ℕ → ℕ) (turn : List ℕ → Turn (List ℕ)) (opens : List ℕ → ℕ)
     (takes : List ℕ → List ℕ → Turn (List ℕ)) (n : ℕ) (s t : List ℕ)
     → turn_rows (join_guard guard opens) (join_step turn takes) n (s, t)
     ≡ stage_rows opens takes t (turn_rows guard turn n s)
+
+abbrev pub StagesMakeTheirRowsOfStages : Type 0
+StagesMakeTheirRowsOfStages =
+    (guard : List ℕ → ℕ) (lower : List ℕ → List ℕ → Turn (List ℕ)) (opens : List ℕ → ℕ)
+    (takes : List ℕ → List ℕ → Turn (List ℕ)) (rows : Rows) (s t : List ℕ)
+    → stage_rows (join_guard guard opens) (join_takes lower takes) (s, t) rows
+    ≡ stage_rows opens takes t (stage_rows guard lower s rows)
 
 abbrev pub StagesReachTheirRows : Type 0
 StagesReachTheirRows =

@@ -2,6 +2,7 @@
 
 ghost use Rattle.machine_turns.specs.Promises.{ReachedRowsAreAsFar, MachinesReachTheirRows};
 ghost use Rattle.machine_turns.specs.Promises.{StagesMakeTheirRowsOfMachines, StagesReachTheirRows};
+ghost use Rattle.machine_turns.specs.Promises.{StagesMakeTheirRowsOfStages};
 ghost use Rattle.machine_turns.specs.Promises.{StagesKeepFarRows, InnerMachinesGoNoFurther};
 ghost use Rattle.machine_turns.specs.Promises.{InnerMachinesReachJoinedRows};
 ghost use Rattle.machine_turns.specs.Promises.{MachinesSideBySideGoNoFurther};
@@ -14,6 +15,7 @@ pub fn machines_reach_their_rows()
 
 pub fn stages_run_over_machines()
     ensures rows { StagesMakeTheirRowsOfMachines }
+    ensures stages { StagesMakeTheirRowsOfStages }
     ensures reaches { StagesReachTheirRows }
     ensures far { StagesKeepFarRows }
 {}

@@ -1,5 +1,5 @@
 -- Acts that the code appends one by one.
-use Rattle.std.proofs.Common.{rules, ◌≡◌, ℕ, ◌+◌, ◌≤◌, List, [], ◌∷◌, ◌++◌, length, drop, Some, true, false, refl, sym, ap, ◌∙◌, arith}
+use Rattle.std.proofs.Common.{◌≡◌, ℕ, ◌+◌, ◌≤◌, List, [], ◌∷◌, ◌++◌, length, drop, Some, true, false, refl, sym, ap, ◌∙◌, arith}
 use Rattle.std.specs.Prelude.{slice_get}
 use Rattle.std.proofs.lemmas.List.{drop_all}
 use Rattle.strm_num.proofs.Lists.{drop_at}
@@ -10,33 +10,17 @@ use Rattle.list_denotation.specs.Copies.{term_of, terms_of}
 use Rattle.list_denotation.specs.TermRows.{variables}
 use Rattle.list_denotation.specs.Terms.{Term, Var}
 use Rattle.list_denotation.specs.Typing.{all_undivided, is_undivided}
-use Rattle.stateful_core.specs.declared.core_term.Act.{Act, the_lemmas}
+use Rattle.stateful_core.specs.declared.core_term.Act.{Act}
 use Rattle.stateful_core.specs.declared.core_term.Act.TheVariants as act
-use Rattle.stateful_core.specs.CoreTerms.{Action, Let, Update, KeepIf, When, Actions, Nil, Cons, join}
+use Rattle.stateful_core.specs.CoreTerms.{Action, Let, Update, When, Actions, Nil, Cons, join}
 use Rattle.stateful_core.specs.CoreCopies.{action_of, actions_of}
 use Rattle.stateful_core.specs.StreamCores.{let_all, set_state, next_state, test_acts, one_less, drop_acts}
-
-join_join : (a b c : Actions) → join (join a b) c ≡ join a (join b c)
-join_join Nil b c = refl
-join_join (Cons s a) b c = ap (λ z. Cons s z) (join_join a b c)
-
-join_nil : (a : Actions) → join a Nil ≡ a
-join_nil Nil = refl
-join_nil (Cons s a) = ap (λ z. Cons s z) (join_nil a)
-
-let_copy : (e : Expr) → action_of (act.Let e) ≡ Let (term_of e)
-let_copy e = search (rules, the_lemmas)
-
-update_copy : (k : ℕ) (es : List Expr) → action_of (act.Update k es) ≡ Update k (terms_of es)
-update_copy k es = search (rules, the_lemmas)
+use Rattle.stateful_core.proofs.ActCopies.{let_copy, keep_copy, update_copy, when_copy, join_join, join_nil, act_push}
 
 -- an act before what is still to come
 acts_push : (acts : List Act) (a : Act) (rest : Actions) → join (actions_of (acts ++ a ∷ [])) rest ≡ join (actions_of acts) (Cons (action_of a) rest)
 acts_push [] a rest = refl
 acts_push (x ∷ acts) a rest = ap (λ z. Cons (action_of x) z) (acts_push acts a rest)
-
-act_push : (acts : List Act) (a : Act) → actions_of (acts ++ a ∷ []) ≡ join (actions_of acts) (Cons (action_of a) Nil)
-act_push acts a = sym (join_nil (actions_of (acts ++ a ∷ []))) ∙ acts_push acts a Nil
 
 pub let_step : (acts : List Act) (es : List Expr) (i : ℕ) (e c : Expr) → slice_get es i ≡ Some e → term_of c ≡ term_of e → join (actions_of (acts ++ act.Let c ∷ [])) (let_all (terms_of (drop (i + 1) es)) Nil) ≡ join (actions_of acts) (let_all (terms_of (drop i es)) Nil)
 let_step acts es i e c h q =
@@ -84,12 +68,6 @@ pub ruleset row_steps = (length_terms, lets_join)
 pub ruleset test_steps = (test_at_once, test_from_local)
 
 -- ---- the acts of drop
-
-when_copy : (e : Expr) (a b : List Act) → action_of (act.When e a b) ≡ When (term_of e) (actions_of a) (actions_of b)
-when_copy e a b = search (rules, the_lemmas)
-
-keep_copy : (e : Expr) → action_of (act.KeepIf e) ≡ KeepIf (term_of e)
-keep_copy e = search (rules, the_lemmas)
 
 pub drop_made : (first : List Act) (k : ℕ) → actions_of first ≡ set_state (one_less k ∷ []) → actions_of ([] ++ act.When (expr.Var k) (first ++ act.KeepIf (expr.Truth false) ∷ []) [] ∷ []) ≡ drop_acts k
 drop_made first k h =

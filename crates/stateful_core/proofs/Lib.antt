@@ -6,10 +6,13 @@ pub mod StreamScopes
 pub mod RunningActs
 pub mod StageRows
 pub mod SourceRows
+pub mod SoundTerms
 pub mod CoreWidths
+pub mod CoreRowWidths
 pub mod ExactTurns
 pub mod StreamRows
 pub mod SoundCores
 pub mod WordCounts
 pub mod CoreKept
+pub mod ActCopies
 pub mod AppendedActs

@@ -16,5 +16,5 @@ mod stream_core;
 
 pub use acts::{push_lets, push_set};
 pub use core_term::{Act, Acts, Core};
-pub use laws::exact_acts_skip_no_turn;
+pub use laws::{core_rows_have_their_width, exact_acts_skip_no_turn};
 pub use program_core::core_of;

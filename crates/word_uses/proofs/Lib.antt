@@ -1,2 +1,1 @@
-pub mod ActCopies
 pub mod WordUses

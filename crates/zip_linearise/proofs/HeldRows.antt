@@ -9,8 +9,8 @@ use Rattle.stateful_core.specs.WordValues.{word_values}
 use Rattle.act_moves.specs.Renumbering.{renumber_row, move_actions}
 use Rattle.act_moves.proofs.MovedActs.{overwrite_behind, placed, run_moved}
 use Rattle.act_moves.proofs.RenumberedValues.{length_values, values_renumbered, room_at}
+use Rattle.stage_machines.specs.MachineParts.{MachineParts}
 use Rattle.zip_linearise.specs.HeldRows.{first_word}
-use Rattle.zip_linearise.specs.Machines.{MachineParts}
 
 -- ---- states
 

@@ -1,8 +1,6 @@
 pub mod HeldRows
-pub mod StageMachines
 pub mod ZipMachines
 pub mod NestMachines
-pub mod RowWidths
 pub mod MachineLeaves
 pub mod SureGuards
 pub mod SoundPairs
@@ -15,7 +13,6 @@ pub mod MachineRows
 pub mod LinearMachines
 pub mod MadeRows
 pub mod MachineActs
-pub mod StageRoom
 pub mod PairRoom
 pub mod LinearRoom
 pub mod WorkedRows

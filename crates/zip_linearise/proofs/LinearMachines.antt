@@ -9,10 +9,10 @@ use Rattle.stateful_core.specs.CoreTerms.{CoreTerm}
 use Rattle.stateful_core.specs.MostWords.{most_words}
 use Rattle.stateful_core.specs.WellFormed.{is_sound_core, is_well_formed}
 use Rattle.act_moves.proofs.RenumberedLeaves.{named_renumbered, word_renumbered}
+use Rattle.stage_machines.specs.MachineParts.{machine_core}
 use Rattle.zip_linearise.specs.Laws.{Laws}
 use Rattle.zip_linearise.specs.MachinePromise.{IsMachineOf}
 use Rattle.zip_linearise.specs.LinearMachine.{linear_machine}
-use Rattle.zip_linearise.specs.Machines.{machine_core}
 use Rattle.zip_linearise.proofs.MachineLeaves.{machine_leaves}
 use Rattle.zip_linearise.proofs.MachineRows.{machine_no_further, machine_as_far}
 use Rattle.zip_linearise.proofs.MachineWords.{machine_most_words}
@@ -27,8 +27,8 @@ machine_kept laws c h =
           (lt-ltb (most_words m 0) (2 ^ 32) (omega (arith, machine_most_words laws c p.0 0, ltb-true (most_words c 0) (2 ^ 32) p.1)));
       scope = machine_scope c p.0;
       width = machine_width c;
-      names = λ may k. machine_leaves (is_named_leaf may) (λ f e. named_renumbered may f e) refl refl (λ b. refl) (λ i. refl) c k;
-      numbers = λ k. machine_leaves is_word_leaf word_renumbered refl refl (λ b. refl) (λ i. refl) c k;
+      names = λ may k. machine_leaves (is_named_leaf may) (λ f e. named_renumbered may f e) refl refl (λ b. refl) (λ i. refl) laws c k;
+      numbers = λ k. machine_leaves is_word_leaf word_renumbered refl refl (λ b. refl) (λ i. refl) laws c k;
       words = machine_most_words laws c p.0;
       no_further = λ env inputs n q. machine_no_further laws inputs env c p.0 q n;
       as_far = λ env inputs n q. machine_as_far laws inputs env c p.0 q n;

@@ -1,38 +1,37 @@
 -- What the code of a machine asks for, at each form of a sound term with few words.
-use Rattle.std.proofs.Common.{◌≡◌, ℕ, ◌+◌, ◌^◌, ◌≤◌, ◌<◌, List, length, sym, ap, ◌∙◌, subst, arith}
+use Rattle.std.proofs.Common.{◌≡◌, ℕ, ◌+◌, ◌^◌, ◌≤◌, ◌<◌, List, length, sym, ◌∙◌, subst, arith}
 use Rattle.std.specs.Prelude.{IsTrue}
 use Rattle.list_denotation.specs.Terms.{Term}
 use Rattle.stateful_core.specs.CoreTerms.{Actions, CoreTerm, Lin, Tr, Nest, Zip}
 use Rattle.stateful_core.specs.CoreShapes.{core_scope, core_width}
-use Rattle.stateful_core.specs.MostWords.{added_words, parts_words}
-use Rattle.stateful_core.specs.WellFormed.{are_sound_parts, is_sound_core}
+use Rattle.stateful_core.specs.MostWords.{added_words}
+use Rattle.stateful_core.specs.WellFormed.{is_sound_core}
+use Rattle.stateful_core.proofs.SoundTerms.{stage_of, nest_of, zip_of}
 use Rattle.act_moves.specs.WordRoom.{StayBelow}
-use Rattle.act_moves.proofs.SoundActs.{sound_parts, parts_sound}
+use Rattle.act_moves.proofs.SoundActs.{sound_parts}
 use Rattle.act_moves.proofs.WordsBelow.{acts_stay_below}
+use Rattle.stage_machines.specs.MachineParts.{MachineParts, machine_from, machine_core}
+use Rattle.stage_machines.specs.StageMachine.{IsStageOver}
 use Rattle.zip_linearise.specs.Laws.{Laws}
 use Rattle.zip_linearise.specs.LinearMachine.{linear_machine}
-use Rattle.zip_linearise.specs.Machines.{MachineParts, machine_core}
 use Rattle.zip_linearise.proofs.MachineWords.{machine_added_words}
-use Rattle.zip_linearise.proofs.SoundMachines.{stage_of, nest_of, zip_of, machine_scope, machine_width, machine_is_sound, parts_over}
+use Rattle.zip_linearise.proofs.SoundMachines.{machine_scope, machine_width, machine_is_sound, stage_over}
 
 pub lin_below : (scope : ℕ) (init : List Term) (guard : Term) (acts : Actions) (item : List Term) → IsTrue (is_sound_core (Lin scope init guard acts item)) → scope + added_words (Lin scope init guard acts item) < 2 ^ 32 → StayBelow (2 ^ 32) (2 ^ 32) acts
 lin_below scope init guard acts item h room =
     acts_stay_below scope (length init) (2 ^ 32) (2 ^ 32) (omega arith) acts (scope + length init + 0) (omega arith) (sound_parts scope 0 init guard acts item h).acts_sound
 
-pub record StageFits (m : MachineParts) (init : List Term) (guard : Term) (acts : Actions) (item : List Term) : Type 0 where
-  pub machine : IsTrue (is_sound_core (machine_core m))
-  pub stage : IsTrue (are_sound_parts m.scope (length m.item) init guard acts item)
-  pub room : m.scope + added_words (machine_core m) + parts_words m.scope init acts item < 2 ^ 32
+pub record StageFits (m stage : MachineParts) : Type 0 where
+  pub over : IsStageOver 0 m stage
+  pub room : m.scope + 0 + added_words (machine_core m) + added_words (machine_core stage) < 2 ^ 32
 
-pub stage_fits : (laws : Laws) (scope : ℕ) (of : CoreTerm) (init : List Term) (guard : Term) (acts : Actions) (item : List Term) (m : MachineParts) → m ≡ linear_machine of → IsTrue (is_sound_core (Tr scope of init guard acts item)) → scope + added_words (Tr scope of init guard acts item) < 2 ^ 32 → StageFits m init guard acts item
+pub stage_fits : (laws : Laws) (scope : ℕ) (of : CoreTerm) (init : List Term) (guard : Term) (acts : Actions) (item : List Term) (m : MachineParts) → m ≡ linear_machine of → IsTrue (is_sound_core (Tr scope of init guard acts item)) → scope + added_words (Tr scope of init guard acts item) < 2 ^ 32 → StageFits m (machine_from scope init guard acts item)
 stage_fits laws scope of init guard acts item m is h room =
     let s = stage_of scope of init guard acts item h in
-    let n = linear_machine of in
-    let at : n.scope ≡ scope = machine_scope of s.below ∙ s.same_scope in
-    subst (λ (x : MachineParts). StageFits x init guard acts item) (sym is) (record {
-      machine = machine_is_sound laws of s.below;
-      stage = parts_sound n.scope (length n.item) init guard acts item (parts_over scope of init guard acts item s);
-      room = omega (arith, at, machine_added_words laws of s.below, ap (λ x. parts_words x init acts item) at);
+    let at : (linear_machine of).scope ≡ scope = machine_scope of s.below ∙ s.same_scope in
+    subst (λ (x : MachineParts). StageFits x (machine_from scope init guard acts item)) (sym is) (record {
+      over = stage_over scope of init guard acts item s (machine_is_sound laws of s.below);
+      room = omega (arith, at, machine_added_words laws of s.below);
     })
 
 -- a term adds at least the words of its rows

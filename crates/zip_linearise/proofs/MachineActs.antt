@@ -1,36 +1,26 @@
--- Acts of machines that the code appends one by one.
-use Rattle.std.proofs.Common.{◌≡◌, ℕ, true, false, ◌+◌, ◌<◌, ◌≤◌, List, [], ◌∷◌, ◌++◌, length, drop, get_or, refl, sym, ap, ◌∙◌}
+-- Acts of machines that are made of two, which the code appends one by one.
+use Rattle.std.proofs.Common.{◌≡◌, ℕ, true, false, ◌+◌, List, [], ◌∷◌, ◌++◌, length, sym, ap, ◌∙◌}
 use Rattle.std.specs.Prelude.{if◌then◌else◌}
-use Rattle.std.proofs.lemmas.List.{drop_all}
 use Rattle.list_denotation.specs.declared.expr.Expr.{Expr}
 use Rattle.list_denotation.specs.declared.expr.Expr.TheVariants as expr
 use Rattle.list_denotation.specs.Copies.{terms_of}
-use Rattle.list_denotation.specs.Terms.{Term, Lit, Truth, Var, Param, Len, Neg, Not, Bin, And, Or, If}
+use Rattle.list_denotation.specs.Terms.{Term, Lit, Var}
 use Rattle.stateful_core.specs.declared.core_term.Act.{Act}
 use Rattle.stateful_core.specs.declared.core_term.Act.TheVariants as act
 use Rattle.stateful_core.specs.CoreCopies.{action_of, actions_of}
-use Rattle.stateful_core.specs.CoreShapes.{action_locals, actions_locals}
-use Rattle.stateful_core.specs.StreamCores.{let_all, set_state}
+use Rattle.stateful_core.specs.StreamCores.{set_state}
 use Rattle.stateful_core.specs.CoreTerms.{Action, StopUnless, Update, When, Actions, Nil, Cons, join}
-use Rattle.stateful_core.proofs.AppendedActs.{lets_join}
 use Rattle.act_moves.specs.Flags.{skip_with, close_unless}
 use Rattle.act_moves.specs.Renumbering.{renumber, renumber_row, move_actions}
-use Rattle.act_moves.proofs.MadeActs.{join_join, acts_push, at_index, update_copy, when_copy}
-use Rattle.zip_linearise.specs.Machines.{is_always}
+use Rattle.stateful_core.proofs.ActCopies.{update_copy, when_copy, join_join, act_push}
+use Rattle.stage_machines.specs.JoinedGuards.{is_always}
+use Rattle.stage_machines.proofs.JoinedGuards.{always_renumbered}
 use Rattle.zip_linearise.specs.NestMachine.{guarded_acts}
-
--- the acts of a machine, then a row, and then the acts of a stage
-pub stage_joined : (lower : Actions) (row es : List Term) (upper first second third : Actions) → first ≡ lower → row ≡ es → second ≡ join first (let_all row Nil) → third ≡ join second upper → third ≡ join lower (let_all es upper)
-stage_joined lower row es upper first second third f r s t =
-    t ∙ ap (λ z. join z upper) (s ∙ ap (λ z. join z (let_all row Nil)) f ∙ ap (λ z. join lower (let_all z Nil)) r)
-    ∙ join_join lower (let_all es Nil) upper ∙ ap (join lower) (lets_join es upper)
-
--- ---- machines that are made of two
 
 -- the acts of a machine, and the act that holds its row
 pub held_push : (f : ℕ → ℕ) (old : Actions) (moved acts s : List Act) (row : List Expr) (es : List Term) (w : ℕ) → s ≡ acts → w ≡ length es → actions_of moved ≡ join old (move_actions f (1 + w) StopUnless (actions_of s)) → terms_of row ≡ renumber_row f es → actions_of (moved ++ act.Update 1 row ∷ []) ≡ join old (join (move_actions f (1 + length es) StopUnless (actions_of acts)) (Cons (Update 1 (renumber_row f es)) Nil))
 held_push f old moved acts s row es w is wide h r =
-    acts_push moved (act.Update 1 row) ∙ ap (λ z. join z (Cons (action_of (act.Update 1 row)) Nil)) h
+    act_push moved (act.Update 1 row) ∙ ap (λ z. join z (Cons (action_of (act.Update 1 row)) Nil)) h
     ∙ ap (λ z. join (join old (move_actions f (1 + w) StopUnless (actions_of s))) (Cons z Nil)) (update_copy 1 row ∙ ap (Update 1) r)
     ∙ ap (λ z. join (join old (move_actions f (1 + w) StopUnless (actions_of z))) (Cons (Update 1 (renumber_row f es)) Nil)) is
     ∙ ap (λ z. join (join old (move_actions f (1 + z) StopUnless (actions_of acts))) (Cons (Update 1 (renumber_row f es)) Nil)) wide
@@ -47,23 +37,9 @@ holding_made start held acts a last s h l = then_acts start held acts a (skip_wi
 pub opening_made : (start held opened : List Act) (acts : Actions) (a : Action) (place : ℕ) (row : List Expr) (es : List Term) (last : Actions) → start ≡ [] → actions_of held ≡ join (actions_of start) (join acts (Cons a Nil)) → opened ≡ held ++ act.Update place row ∷ [] → terms_of row ≡ es → last ≡ join (actions_of opened) (skip_with 1) → last ≡ join acts (Cons a (Cons (Update place es) (skip_with 1)))
 opening_made start held opened acts a place row es last s h t r l =
     then_acts start held acts a (Cons (Update place es) (skip_with 1)) last s h
-    (l ∙ ap (λ z. join z (skip_with 1)) (ap actions_of t ∙ acts_push held (act.Update place row))
+    (l ∙ ap (λ z. join z (skip_with 1)) (ap actions_of t ∙ act_push held (act.Update place row))
     ∙ join_join (actions_of held) (Cons (action_of (act.Update place row)) Nil) (skip_with 1)
     ∙ ap (λ z. join (actions_of held) (Cons z (skip_with 1))) (update_copy place row ∙ ap (Update place) r))
-
-always_renumbered : (f : ℕ → ℕ) (e : Term) → is_always (renumber f e) ≡ is_always e
-always_renumbered f (Truth true) = refl
-always_renumbered f (Truth false) = refl
-always_renumbered f (Lit w) = refl
-always_renumbered f (Var k) = refl
-always_renumbered f (Param k) = refl
-always_renumbered f (Len k) = refl
-always_renumbered f (Neg a) = refl
-always_renumbered f (Not a) = refl
-always_renumbered f (Bin op a b) = refl
-always_renumbered f (And a b) = refl
-always_renumbered f (Or a b) = refl
-always_renumbered f (If c a b) = refl
 
 -- the acts of the inner machine, without or with a test of its guard
 module _ (f : ℕ → ℕ) (k : ℕ) (guard : Term) (acts s : List Act) (old last : Actions) (is : s ≡ acts) where
@@ -92,15 +68,5 @@ pub choice_first : (start none opened made : List Act) (k : ℕ) (more last : Ac
 choice_first start none opened made k more last s n m l =
     l
     ∙ ap (λ z. join z more)
-    (ap actions_of m ∙ acts_push start (act.When (expr.Var k) none opened) ∙ ap (λ z. join (actions_of z) (Cons (action_of (act.When (expr.Var k) none opened)) Nil)) s)
+    (ap actions_of m ∙ act_push start (act.When (expr.Var k) none opened) ∙ ap (λ z. join (actions_of z) (Cons (action_of (act.When (expr.Var k) none opened)) Nil)) s)
     ∙ ap (λ z. Cons z more) (when_copy (expr.Var k) none opened ∙ ap (λ z. When (Var k) (actions_of z) (actions_of opened)) n)
-
--- ---- local words
-
-pub local_step : (acts : List Act) (i : ℕ) (a : Act) → i < length acts → a ≡ get_or acts i a → actions_locals (actions_of (drop i acts)) ≡ action_locals (action_of a) + actions_locals (actions_of (drop (i + 1) acts))
-local_step acts i a h is = ap (λ z. actions_locals (actions_of z)) (at_index acts i a h is)
-
-pub local_end : (acts : List Act) (i : ℕ) → length acts ≤ i → actions_locals (actions_of (drop i acts)) ≡ 0
-local_end acts i h = ap (λ z. actions_locals (actions_of z)) (drop_all i acts h)
-
-pub ruleset local_steps = (local_step, local_end)

@@ -7,13 +7,15 @@ use Rattle.list_denotation.specs.TermRows.{variables}
 use Rattle.list_denotation.specs.Terms.{Term, Lit, Truth, Var, Not, And, Or}
 use Rattle.stateful_core.specs.CoreTerms.{StopUnless, Update, When, Actions, Nil, Cons, join, CoreTerm, Lin, Tr, Nest, Zip}
 use Rattle.stateful_core.specs.CoreLeaves.{row_leaves, action_leaves, actions_leaves, parts_leaves, core_leaves}
-use Rattle.stateful_core.specs.CoreShapes.{actions_locals}
 use Rattle.act_moves.specs.Flags.{skip_with, close_unless}
 use Rattle.act_moves.specs.Renumbering.{renumber, renumber_row, move_actions}
-use Rattle.act_moves.proofs.RenumberedLeaves.{all_append, leaves_renumbered, row_renumbered, leaves_join, leaves_lets, leaves_moved}
+use Rattle.act_moves.proofs.RenumberedLeaves.{all_append, leaves_renumbered, row_renumbered, leaves_join, leaves_moved}
+use Rattle.stage_machines.specs.JoinedGuards.{is_always, join_guards}
+use Rattle.stage_machines.specs.MachineParts.{MachineParts, machine_from, machine_core}
+use Rattle.stage_machines.proofs.JoinedGuards.{leaves_guards}
 use Rattle.zip_linearise.specs.HeldRows.{zeros, first_word, second_place, hold_acts, flag_or}
+use Rattle.zip_linearise.specs.Laws.{Laws}
 use Rattle.zip_linearise.specs.LinearMachine.{linear_machine}
-use Rattle.zip_linearise.specs.Machines.{MachineParts, machine_core, is_always, join_guards, machine_word, guard_word, stage_word, stage_acts, stage_machine}
 use Rattle.zip_linearise.specs.NestMachine.{inner_word, guarded_acts, nest_acts, nest_machine}
 use Rattle.zip_linearise.specs.ZipMachine.{right_word, due_guard, zip_acts, zip_machine}
 
@@ -38,30 +40,6 @@ module _ (test : Term → Bool) (each : (f : ℕ → ℕ) (e : Term) → IsTrue 
   pass_parts init guard acts item h =
       true_both (row_leaves test init) _ h.in_init
       (true_both (all_leaves test guard) _ h.in_guard (true_both (actions_leaves test acts) (row_leaves test item) h.in_acts h.in_item))
-
-  leaves_guards : (g h : Term) → IsTrue (all_leaves test g) → IsTrue (all_leaves test h) → IsTrue (all_leaves test (join_guards g h))
-  leaves_guards g h p q = by_form (is_always g) (is_always h)
-    where
-      by_form : (t u : Bool) → IsTrue (all_leaves test (if t then h else (if u then g else And g h)))
-      by_form true u = q
-      by_form false true = p
-      by_form false false = true_both (all_leaves test g) (all_leaves test h) p q
-
-  stage_leaves : (locals : ℕ) (m : MachineParts) (init : List Term) (guard : Term) (acts : Actions) (item : List Term) → PartsPass test m.init m.guard m.acts m.item → PartsPass test init guard acts item → IsTrue (core_leaves test (machine_core (stage_machine locals m init guard acts item)))
-  stage_leaves locals m init guard acts item h k =
-      let f = machine_word m init in
-      let g = stage_word locals m init in
-      let halts = λ (e : Term) (p : IsTrue (all_leaves test e)). p in
-      let lower = leaves_moved test each f 0 StopUnless halts m.acts h.in_acts in
-      let upper = leaves_moved test each g (length m.init) StopUnless halts acts k.in_acts in
-      pass_parts (m.init ++ init) (stage_machine locals m init guard acts item).guard (stage_acts locals m init acts) (renumber_row g item) (record {
-        in_init = all_append (all_leaves test) m.init init h.in_init k.in_init;
-        in_guard = leaves_guards (renumber (guard_word m) guard) (renumber f m.guard)
-            (leaves_renumbered (guard_word m) test test (each (guard_word m)) guard k.in_guard) (leaves_renumbered f test test (each f) m.guard h.in_guard);
-        in_acts = leaves_join test each (move_actions f 0 StopUnless m.acts) _ lower
-            (leaves_lets test each (renumber_row f m.item) (move_actions g (length m.init) StopUnless acts) (row_renumbered f test test (each f) m.item h.in_item) upper);
-        in_item = row_renumbered g test test (each g) item k.in_item;
-      })
 
   -- ---- two machines in one
 
@@ -94,7 +72,7 @@ module _ (test : Term → Bool) (each : (f : ℕ → ℕ) (e : Term) → IsTrue 
       by_form false =
           true_both (test (Var k) && all_leaves test right) (all_leaves test (join_guards (Not (Var k)) left))
           (true_both (test (Var k)) (all_leaves test right) (word_passes k) h)
-          (leaves_guards (Not (Var k)) left (word_passes k) l)
+          (leaves_guards test (Not (Var k)) left (word_passes k) l)
 
   -- the acts that set the flag to a number that passes
   skip_leaves : (flag : ℕ) → IsTrue (test (Lit flag)) → IsTrue (actions_leaves test (skip_with flag))
@@ -175,22 +153,20 @@ module _ (test : Term → Bool) (each : (f : ℕ → ℕ) (e : Term) → IsTrue 
 
   -- ---- terms
 
-  pub machine_leaves : (c : CoreTerm) → IsTrue (core_leaves test c) → IsTrue (core_leaves test (machine_core (linear_machine c)))
-  machine_leaves (Lin scope init guard acts item) h = h
-  machine_leaves (Tr scope of init guard acts item) h =
+  pub machine_leaves : (laws : Laws) (c : CoreTerm) → IsTrue (core_leaves test c) → IsTrue (core_leaves test (machine_core (linear_machine c)))
+  machine_leaves laws (Lin scope init guard acts item) h = h
+  machine_leaves laws (Tr scope of init guard acts item) h =
       let p = both_true (core_leaves test of) (parts_leaves test init guard acts item) h in
-      let m = linear_machine of in
-      stage_leaves (actions_locals m.acts) m init guard acts item
-      (parts_pass m.init m.guard m.acts m.item (machine_leaves of p.0)) (parts_pass init guard acts item p.1)
-  machine_leaves (Nest of inner) h =
+      laws.stage_leaves test each 0 (linear_machine of) (machine_from scope init guard acts item) (machine_leaves laws of p.0) p.1
+  machine_leaves laws (Nest of inner) h =
       let p = both_true (core_leaves test of) (core_leaves test inner) h in
       let o = linear_machine of in
       let i = linear_machine inner in
-      nest_leaves o i (parts_pass o.init o.guard o.acts o.item (machine_leaves of p.0))
-      (parts_pass i.init i.guard i.acts i.item (machine_leaves inner p.1))
-  machine_leaves (Zip left right) h =
+      nest_leaves o i (parts_pass o.init o.guard o.acts o.item (machine_leaves laws of p.0))
+      (parts_pass i.init i.guard i.acts i.item (machine_leaves laws inner p.1))
+  machine_leaves laws (Zip left right) h =
       let p = both_true (core_leaves test left) (core_leaves test right) h in
       let o = linear_machine left in
       let i = linear_machine right in
-      zip_leaves o i (parts_pass o.init o.guard o.acts o.item (machine_leaves left p.0))
-      (parts_pass i.init i.guard i.acts i.item (machine_leaves right p.1))
+      zip_leaves o i (parts_pass o.init o.guard o.acts o.item (machine_leaves laws left p.0))
+      (parts_pass i.init i.guard i.acts i.item (machine_leaves laws right p.1))

@@ -4,14 +4,16 @@ use Rattle.std.specs.Prelude.{if◌then◌else◌}
 use Rattle.list_denotation.specs.TermRows.{variables}
 use Rattle.list_denotation.specs.Terms.{Term, Lit, Var, Not, And, Or}
 use Rattle.stateful_core.specs.CoreTerms.{StopUnless, Update, When, Actions, Nil, Cons, join, CoreTerm, Lin, Tr, Nest, Zip}
-use Rattle.stateful_core.specs.CoreShapes.{actions_locals}
 use Rattle.stateful_core.specs.MostWords.{most_temps, row_temps, actions_temps, parts_temps, core_temps}
 use Rattle.act_moves.specs.Flags.{skip_with, close_unless}
 use Rattle.act_moves.specs.Renumbering.{renumber, renumber_row, move_actions}
-use Rattle.act_moves.proofs.MovedTemps.{temps_renumbered, row_temps_renumbered, temps_moved, row_temps_append, temps_join, temps_lets}
+use Rattle.act_moves.proofs.MovedTemps.{temps_renumbered, row_temps_renumbered, temps_moved, row_temps_append, temps_join}
+use Rattle.stage_machines.specs.JoinedGuards.{is_always, join_guards}
+use Rattle.stage_machines.specs.MachineParts.{MachineParts, machine_from, machine_core}
+use Rattle.stage_machines.proofs.JoinedGuards.{temps_guards}
 use Rattle.zip_linearise.specs.HeldRows.{zeros, first_word, second_place, hold_acts, flag_or}
+use Rattle.zip_linearise.specs.Laws.{Laws}
 use Rattle.zip_linearise.specs.LinearMachine.{linear_machine}
-use Rattle.zip_linearise.specs.Machines.{MachineParts, machine_core, is_always, join_guards, machine_word, guard_word, stage_word, stage_acts, stage_machine}
 use Rattle.zip_linearise.specs.NestMachine.{inner_word, guarded_acts, nest_acts, nest_machine}
 use Rattle.zip_linearise.specs.ZipMachine.{right_word, due_guard, zip_acts, zip_machine}
 
@@ -19,14 +21,6 @@ use Rattle.zip_linearise.specs.ZipMachine.{right_word, due_guard, zip_acts, zip_
 
 -- parts have at most n temporaries where each of them has
 module _ (n : ℕ) where
-  temps_guards : (g h : Term) → most_temps g ≤ n → most_temps h ≤ n → most_temps (join_guards g h) ≤ n
-  temps_guards g h p q = by_form (is_always g) (is_always h)
-    where
-      by_form : (t u : Bool) → most_temps (if t then h else (if u then g else And g h)) ≤ n
-      by_form true u = q
-      by_form false true = p
-      by_form false false = omega arith
-
   parts_within : (init : List Term) (guard : Term) (acts : Actions) (item : List Term) → row_temps init ≤ n → most_temps guard ≤ n → actions_temps acts ≤ n → row_temps item ≤ n → parts_temps init guard acts item ≤ n
   parts_within init guard acts item a b c d = omega arith
 
@@ -40,17 +34,6 @@ within_parts : (n : ℕ) (init : List Term) (guard : Term) (acts : Actions) (ite
 within_parts n init guard acts item h = record { in_init = omega arith; in_guard = omega arith; in_acts = omega arith; in_item = omega arith }
 
 -- ---- machines
-
-stage_temps : (n locals : ℕ) (m : MachineParts) (init : List Term) (guard : Term) (acts : Actions) (item : List Term) → TempsWithin n m.init m.guard m.acts m.item → TempsWithin n init guard acts item → core_temps (machine_core (stage_machine locals m init guard acts item)) ≤ n
-stage_temps n locals m init guard acts item h k =
-    let f = machine_word m init in
-    let g = stage_word locals m init in
-    parts_within n (m.init ++ init) (stage_machine locals m init guard acts item).guard (stage_acts locals m init acts) (renumber_row g item)
-    (row_temps_append n m.init init h.in_init k.in_init)
-    (temps_guards n (renumber (guard_word m) guard) (renumber f m.guard) (omega (arith, k.in_guard, temps_renumbered (guard_word m) guard)) (omega (arith, h.in_guard, temps_renumbered f m.guard)))
-    (temps_join n (move_actions f 0 StopUnless m.acts) _ (omega (arith, h.in_acts, temps_moved f 0 StopUnless (λ e. refl) m.acts))
-    (temps_lets n (renumber_row f m.item) (move_actions g (length m.init) StopUnless acts) (omega (arith, h.in_item, row_temps_renumbered f m.item)) (omega (arith, k.in_acts, temps_moved g (length m.init) StopUnless (λ e. refl) acts))))
-    (omega (arith, k.in_item, row_temps_renumbered g item))
 
 zeros_temps : (k : ℕ) → row_temps (zeros k) ≡ 0
 zeros_temps zero = refl
@@ -147,31 +130,25 @@ at_most_first x y z h = omega arith
 at_most_second : (x y z : ℕ) → x ≤ z → x ≤ max y z
 at_most_second x y z h = omega arith
 
-pub machine_temps : (c : CoreTerm) → core_temps (machine_core (linear_machine c)) ≤ core_temps c
-machine_temps (Lin scope init guard acts item) = omega arith
-machine_temps (Tr scope of init guard acts item) =
-    let m = linear_machine of in
-    let n = core_temps (Tr scope of init guard acts item) in
-    let own = parts_temps init guard acts item in
-    stage_temps n (actions_locals m.acts) m init guard acts item
-    (within_parts n m.init m.guard m.acts m.item
-    (at_most_first (parts_temps m.init m.guard m.acts m.item) (core_temps of) own (machine_temps of)))
-    (within_parts n init guard acts item (at_most_second own (core_temps of) own (omega arith)))
-machine_temps (Nest of inner) =
+pub machine_temps : (laws : Laws) (c : CoreTerm) → core_temps (machine_core (linear_machine c)) ≤ core_temps c
+machine_temps laws (Lin scope init guard acts item) = omega arith
+machine_temps laws (Tr scope of init guard acts item) =
+    omega (arith, machine_temps laws of, laws.stage_temps 0 (linear_machine of) (machine_from scope init guard acts item))
+machine_temps laws (Nest of inner) =
     let o = linear_machine of in
     let i = linear_machine inner in
     let n = core_temps (Nest of inner) in
     nest_temps n o i
     (within_parts n o.init o.guard o.acts o.item
-    (at_most_first (core_temps (machine_core o)) (core_temps of) (core_temps inner) (machine_temps of)))
+    (at_most_first (core_temps (machine_core o)) (core_temps of) (core_temps inner) (machine_temps laws of)))
     (within_parts n i.init i.guard i.acts i.item
-    (at_most_second (core_temps (machine_core i)) (core_temps of) (core_temps inner) (machine_temps inner)))
-machine_temps (Zip left right) =
+    (at_most_second (core_temps (machine_core i)) (core_temps of) (core_temps inner) (machine_temps laws inner)))
+machine_temps laws (Zip left right) =
     let o = linear_machine left in
     let i = linear_machine right in
     let n = core_temps (Zip left right) in
     zip_temps n o i
     (within_parts n o.init o.guard o.acts o.item
-    (at_most_first (core_temps (machine_core o)) (core_temps left) (core_temps right) (machine_temps left)))
+    (at_most_first (core_temps (machine_core o)) (core_temps left) (core_temps right) (machine_temps laws left)))
     (within_parts n i.init i.guard i.acts i.item
-    (at_most_second (core_temps (machine_core i)) (core_temps left) (core_temps right) (machine_temps right)))
+    (at_most_second (core_temps (machine_core i)) (core_temps left) (core_temps right) (machine_temps laws right)))

@@ -1,5 +1,5 @@
 -- A machine adds at most the words that are counted for its term.
-use Rattle.std.proofs.Common.{◌≡◌, ℕ, ◌+◌, ◌≤◌, List, [], ◌∷◌, length, Bool, true, false, ap, ◌∙◌, arith, length-append}
+use Rattle.std.proofs.Common.{◌≡◌, ℕ, ◌+◌, ◌≤◌, [], ◌∷◌, length, Bool, true, false, arith, length-append}
 use Rattle.std.specs.Prelude.{IsTrue, if◌then◌else◌}
 use Rattle.std.proofs.lemmas.Bool.{ltb-true}
 use Rattle.std.proofs.lemmas.List.{length-replicate}
@@ -10,48 +10,27 @@ use Rattle.list_denotation.specs.Terms.{Term, Lit}
 use Rattle.list_denotation.specs.Typing.{all_undivided}
 use Rattle.stateful_core.specs.CoreTerms.{StopUnless, Update, Actions, Nil, Cons, CoreTerm, Lin, Tr, Nest, Zip}
 use Rattle.stateful_core.specs.CoreShapes.{actions_locals}
-use Rattle.stateful_core.specs.MostWords.{actions_words, parts_words, added_words, most_words}
-use Rattle.stateful_core.specs.StreamCores.{let_all}
+use Rattle.stateful_core.specs.MostWords.{actions_words, added_words, most_words}
 use Rattle.stateful_core.specs.WellFormed.{is_sound_core}
 use Rattle.stateful_core.proofs.VariableRows.{length_variables}
+use Rattle.stateful_core.proofs.SoundTerms.{stage_of, nest_of, zip_of}
 use Rattle.act_moves.specs.Flags.{skip_with, close_unless}
 use Rattle.act_moves.specs.Renumbering.{with_room, renumber, renumber_row, move_actions}
 use Rattle.act_moves.proofs.RenumberedLeaves.{length_renumbered}
 use Rattle.act_moves.proofs.SoundActs.{SoundParts, room_cases}
-use Rattle.act_moves.proofs.MovedWords.{words_join, words_lets, straight_renumbered, straight_words, words_moved}
+use Rattle.act_moves.proofs.MovedWords.{words_join, straight_renumbered, straight_words, words_moved}
+use Rattle.stage_machines.specs.JoinedGuards.{is_always}
+use Rattle.stage_machines.specs.MachineParts.{MachineParts, machine_from, machine_core}
 use Rattle.zip_linearise.specs.HeldRows.{zeros, first_word, second_place, hold_acts}
 use Rattle.zip_linearise.specs.Laws.{Laws}
 use Rattle.zip_linearise.specs.LinearMachine.{linear_machine}
-use Rattle.zip_linearise.specs.Machines.{MachineParts, machine_core, is_always, machine_word, stage_word, stage_machine}
 use Rattle.zip_linearise.specs.NestMachine.{inner_word, guarded_acts, nest_machine}
 use Rattle.zip_linearise.specs.ZipMachine.{right_word, zip_machine}
-use Rattle.zip_linearise.proofs.SoundMachines.{machine_width, stage_of, nest_of, zip_of, machine_parts, machine_scope, inner_scope, right_scope, parts_over}
+use Rattle.zip_linearise.proofs.SoundMachines.{machine_width, machine_parts, machine_scope, inner_scope, right_scope, stage_over, machine_is_sound}
 use Rattle.zip_linearise.proofs.MachineTemps.{machine_temps}
 use Rattle.zip_linearise.proofs.SureGuards.{held_length}
 
 -- ---- machines
-
-stage_words : (w locals : ℕ) (m : MachineParts) (init : List Term) (guard : Term) (acts : Actions) (item : List Term) → SoundParts m.scope w m.init m.guard m.acts m.item → SoundParts m.scope (length m.item) init guard acts item → added_words (machine_core (stage_machine locals m init guard acts item)) ≤ added_words (machine_core m) + parts_words m.scope init acts item
-stage_words w locals m init guard acts item lower own =
-    let e = m.scope in
-    let a = length m.init in
-    let b = length init in
-    let f = machine_word m init in
-    let g = stage_word locals m init in
-    omega (
-      arith,
-      words_moved f 0 a e e (λ i at count low o. omega (arith, o, room_cases (e + a) b i)) StopUnless (λ t. omega arith) m.acts
-          (e + a + w) lower.acts_sound,
-      words_moved g a b e e
-          (λ i at count low o. omega (arith, o, room_cases e a i, room_cases (e + a + b) locals (with_room e a i))) StopUnless
-          (λ t. omega arith)
-          acts (e + b + length m.item) own.acts_sound,
-      length-append m.init init,
-      length_renumbered g item,
-      length_renumbered f m.item,
-      words_join e (move_actions f 0 StopUnless m.acts) (let_all (renumber_row f m.item) (move_actions g a StopUnless acts)),
-      words_lets e (renumber_row f m.item) (move_actions g a StopUnless acts),
-    )
 
 -- the row is written over words that it doesn't read
 hold_words : (m : MachineParts) (others : ℕ) (more : Actions) → SoundParts m.scope 0 m.init m.guard m.acts m.item → actions_words m.scope (hold_acts m others more) ≤ actions_words m.scope m.acts + actions_words m.scope more
@@ -133,14 +112,10 @@ machine_added_words laws (Lin scope init guard acts item) h = omega arith
 machine_added_words laws (Tr scope of init guard acts item) h =
     let s = stage_of scope of init guard acts item h in
     let m = linear_machine of in
-    let at : m.scope ≡ scope = machine_scope of s.below ∙ s.same_scope in
-    let here = ap (λ x. parts_words x init acts item) at in
     omega (
       arith,
       machine_added_words laws of s.below,
-      here,
-      stage_words 0 (actions_locals m.acts) m init guard acts item (machine_parts laws of s.below)
-          (parts_over scope of init guard acts item s),
+      laws.stage_words 0 m (machine_from scope init guard acts item) (stage_over scope of init guard acts item s (machine_is_sound laws of s.below)),
     )
 machine_added_words laws (Nest of inner) h =
     let s = nest_of of inner h in
@@ -165,4 +140,4 @@ machine_added_words laws (Zip left right) h =
     )
 
 pub machine_most_words : (laws : Laws) (c : CoreTerm) → IsTrue (is_sound_core c) → (d : ℕ) → most_words (machine_core (linear_machine c)) d ≤ most_words c d
-machine_most_words laws c h d = omega (arith, machine_added_words laws c h, machine_temps c, machine_scope c h)
+machine_most_words laws c h d = omega (arith, machine_added_words laws c h, machine_temps laws c, machine_scope c h)

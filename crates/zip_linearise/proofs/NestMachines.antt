@@ -20,13 +20,14 @@ use Rattle.act_moves.specs.Renumbering.{renumber, renumber_row, move_actions}
 use Rattle.act_moves.proofs.ActLengths.{run_join, KeepsState, acts_keep}
 use Rattle.act_moves.proofs.MovedActs.{lift, acts_moved, placed}
 use Rattle.act_moves.proofs.RenumberedValues.{value_renumbered, values_renumbered, length_values, values_append, room_at}
-use Rattle.machine_turns.proofs.AlikeTurns.{AlikeTurns, both_give, both_skip, both_stop, both_break, SameTruth}
+use Rattle.machine_turns.specs.AlikeTurns.{AlikeTurns, both_give, both_skip, both_stop, both_break, SameTruth}
+use Rattle.stage_machines.specs.JoinedGuards.{is_always}
+use Rattle.stage_machines.specs.MachineParts.{MachineParts}
+use Rattle.stage_machines.proofs.JoinedGuards.{always_true, same_twice}
 use Rattle.zip_linearise.specs.HeldRows.{zeros, first_word, second_place, flag_or}
 use Rattle.zip_linearise.specs.Laws.{Laws}
-use Rattle.zip_linearise.specs.Machines.{MachineParts, is_always}
 use Rattle.zip_linearise.specs.NestMachine.{inner_word, guarded_acts, nest_machine}
 use Rattle.zip_linearise.proofs.HeldRows.{overwritten_at, first_words, run_first, holds_row}
-use Rattle.zip_linearise.proofs.StageMachines.{always_true, same_twice}
 
 -- ---- guards
 

@@ -1,30 +1,37 @@
 -- The rows of the machine of a Nest, and those that it reaches, by those of its two parts.
-use Rattle.std.proofs.Common.{◌≡◌, ℕ, ◌+◌, List, [], ◌++◌, length, sym, ◌∙◌, subst, arith, length-append}
+use Rattle.std.proofs.Common.{inl, inr, ◌≡◌, ℕ, ◌+◌, List, [], ◌++◌, length, sym, ◌∙◌, subst, arith, length-append}
 use Rattle.std.specs.Prelude.{IsTrue}
 use Rattle.strm_num.proofs.Truths.{both_true}
 use Rattle.list_denotation.specs.declared.input.Input.{Input}
-use Rattle.list_denotation.specs.Rows.{join_rows}
+use Rattle.list_denotation.specs.Rows.{Rows, Ends, Row, join_rows}
 use Rattle.list_denotation.specs.Scopes.{all_bound}
 use Rattle.list_denotation.specs.Typing.{all_undivided}
 use Rattle.denotation_laws.specs.FarRows.{FarRows}
-use Rattle.denotation_laws.specs.RowWords.{IsRowOf}
+use Rattle.denotation_laws.specs.RowWords.{EachRow, IsRowOf}
 use Rattle.stateful_core.specs.CoreTerms.{CoreTerm, Nest}
 use Rattle.stateful_core.specs.CoreRows.{core_turn, guard_value, core_rows}
 use Rattle.stateful_core.specs.CoreShapes.{core_scope, core_width}
 use Rattle.stateful_core.specs.CoreWork.{core_work}
 use Rattle.stateful_core.specs.Turns.{Turn}
 use Rattle.stateful_core.specs.WordValues.{word_values}
+use Rattle.stateful_core.proofs.SoundTerms.{SoundPair}
 use Rattle.machine_turns.specs.MachineRuns.{Runs}
 use Rattle.machine_turns.specs.NestTurns.{NestState, Closed, nest_guard, nest_step}
 use Rattle.act_moves.proofs.SoundActs.{SoundParts}
-use Rattle.machine_turns.proofs.AlikeTurns.{AlikeTurns, SameTruth, alike_rows, alike_runs}
+use Rattle.machine_turns.specs.AlikeTurns.{AlikeTurns, SameTruth}
+use Rattle.machine_turns.proofs.AlikeTurns.{alike_rows, alike_runs}
+use Rattle.stage_machines.specs.MachineParts.{MachineParts, machine_core}
 use Rattle.zip_linearise.specs.Laws.{Laws}
 use Rattle.zip_linearise.specs.LinearMachine.{linear_machine}
-use Rattle.zip_linearise.specs.Machines.{MachineParts, machine_core}
 use Rattle.zip_linearise.specs.NestMachine.{nest_machine}
 use Rattle.zip_linearise.proofs.NestMachines.{HeldNest, nest_turns, nest_guards, nest_start}
-use Rattle.zip_linearise.proofs.RowWidths.{row_among, wide_rows}
-use Rattle.zip_linearise.proofs.SoundMachines.{SoundPair, machine_parts, machine_scope, inner_scope, machine_width}
+use Rattle.zip_linearise.proofs.SoundMachines.{machine_parts, machine_scope, inner_scope, machine_width}
+
+-- what holds of each row of a list holds of any one
+row_among : (P : List ℕ → Type 0) (r : List ℕ) (rows : Rows) → EachRow P rows → IsRowOf r rows → P r
+row_among P r (Ends e) each among = absurd among
+row_among P r (Row s rest) each (inl e) = subst P (sym e) each.0
+row_among P r (Row s rest) each (inr among) = row_among P r rest each.1 among
 
 module _ (laws : Laws) (inputs : List Input) (env : List ℕ) (of inner : CoreTerm) (s : SoundPair of inner (core_scope of + core_width of)) (scoped : length env ≡ core_scope of) where
   abbrev o : MachineParts
@@ -88,7 +95,7 @@ module _ (laws : Laws) (inputs : List Input) (env : List ℕ) (of inner : CoreTe
 
   row_width : (n : ℕ) (r : List ℕ) → IsRowOf r (core_rows (machine_core o) env inputs n) → length r ≡ core_width of
   row_width n r among =
-      row_among (λ z. length z ≡ length o.item) r (core_rows (machine_core o) env inputs n) (wide_rows (machine_core o) env inputs n) among ∙ machine_width of
+      row_among (λ z. length z ≡ length o.item) r (core_rows (machine_core o) env inputs n) (laws.widths (machine_core o) env inputs n) among ∙ machine_width of
 
   -- in n turns the machine gives no more than the inner lists joined, where this holds of both parts
   pub nest_rows_far : (n : ℕ) → FarRows (core_rows (machine_core o) env inputs n) (core_rows of env inputs n)
@@ -107,5 +114,5 @@ module _ (laws : Laws) (inputs : List Input) (env : List ℕ) (of inner : CoreTe
   nest_rows_reached n outer_runs inner_runs =
       alike_runs R nested_guard nested_turn (nest_guard guard) (nest_step turn opens takes start) alike_guards alike_turns
       (laws.nest_reaches guard turn opens takes start (core_width of) (λ r. core_rows inner (env ++ r) inputs n) (λ r. core_work inner (env ++ r) inputs n) inner_runs
-      (core_rows of env inputs n) (word_values o.init env inputs) (core_work of env inputs n) outer_runs (wide_rows of env inputs n))
+      (core_rows of env inputs n) (word_values o.init env inputs) (core_work of env inputs n) outer_runs (laws.widths of env inputs n))
       (word_values m.init env inputs) begins

@@ -14,8 +14,8 @@ use Rattle.act_moves.specs.WordRoom.{ReadsBelow, RowReadsBelow, StayBelow, numbe
 use Rattle.act_moves.specs.declared.renumbering.Room.{Room}
 use Rattle.act_moves.proofs.SoundActs.{SoundParts, sound_parts}
 use Rattle.act_moves.proofs.WordsBelow.{sure_reads_below, sure_row_reads_below, all_locals_few, acts_stay_below, one_room}
+use Rattle.stage_machines.specs.MachineParts.{MachineParts, machine_from, machine_core}
 use Rattle.zip_linearise.specs.HeldRows.{zeros, first_word, second_place, flag_or}
-use Rattle.zip_linearise.specs.Machines.{MachineParts, machine_from, machine_core}
 use Rattle.zip_linearise.specs.NestMachine.{inner_word, guarded_acts, nest_machine}
 use Rattle.zip_linearise.specs.ZipMachine.{right_word, due_guard, zip_machine}
 

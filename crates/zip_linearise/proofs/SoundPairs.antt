@@ -14,8 +14,9 @@ use Rattle.act_moves.specs.Flags.{skip_with, close_unless}
 use Rattle.act_moves.specs.Renumbering.{with_room, renumber, renumber_row, move_actions}
 use Rattle.act_moves.proofs.RenumberedLeaves.{length_renumbered}
 use Rattle.act_moves.proofs.SoundActs.{SoundParts, locals_join, locals_moved, room_within, sure_renumbered, all_sure_renumbered, sure_append, sound_join, sound_moved, sound_flag, sound_skip, sound_close}
+use Rattle.stage_machines.specs.JoinedGuards.{is_always}
+use Rattle.stage_machines.specs.MachineParts.{MachineParts}
 use Rattle.zip_linearise.specs.HeldRows.{zeros, first_word, second_place, hold_acts}
-use Rattle.zip_linearise.specs.Machines.{MachineParts, is_always}
 use Rattle.zip_linearise.specs.NestMachine.{inner_word, guarded_acts, nest_acts, nest_machine}
 use Rattle.zip_linearise.specs.ZipMachine.{right_word, zip_acts, zip_machine}
 use Rattle.zip_linearise.proofs.SureGuards.{sure_zeros, held_length, sure_held, sure_flag, sure_flag_or, sure_due}

@@ -7,8 +7,9 @@ use Rattle.strm_num.proofs.Truths.{true_both}
 use Rattle.list_denotation.specs.Terms.{Term, Lit, Var, Not, And, Or}
 use Rattle.stateful_core.specs.WellFormed.{is_sure, all_sure}
 use Rattle.act_moves.proofs.SoundActs.{sure_append, sure_and}
+use Rattle.stage_machines.specs.JoinedGuards.{is_always, join_guards}
+use Rattle.stage_machines.proofs.JoinedGuards.{sure_guards}
 use Rattle.zip_linearise.specs.HeldRows.{zeros, flag_or}
-use Rattle.zip_linearise.specs.Machines.{is_always, join_guards}
 use Rattle.zip_linearise.specs.ZipMachine.{due_guard}
 
 pub sure_zeros : (n k : ℕ) → IsTrue (all_sure n (zeros k))
@@ -22,14 +23,6 @@ held_length w one other =
 
 pub sure_held : (n w : ℕ) (one other : List Term) → IsTrue (all_sure n one) → IsTrue (all_sure n other) → IsTrue (all_sure n (Lit 0 ∷ (zeros w ++ (one ++ other))))
 sure_held n w one other h k = sure_append n (zeros w) (one ++ other) (sure_zeros n w) (sure_append n one other h k)
-
-pub sure_guards : (n : ℕ) (g h : Term) → IsTrue (is_sure n g) → IsTrue (is_sure n h) → IsTrue (is_sure n (join_guards g h))
-sure_guards n g h p q = by_form (is_always g) (is_always h)
-  where
-    by_form : (t u : Bool) → IsTrue (is_sure n (if t then h else (if u then g else And g h)))
-    by_form true u = q
-    by_form false true = p
-    by_form false false = sure_and n g h p q
 
 pub sure_flag : (n k : ℕ) → k < n → IsTrue (is_sure n (Var k))
 sure_flag n k h = true_both (nat_lt k n) true (lt-ltb k n h) refl

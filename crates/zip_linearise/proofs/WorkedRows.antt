@@ -12,9 +12,10 @@ use Rattle.stateful_core.specs.MostWords.{most_words}
 use Rattle.stateful_core.specs.StreamCores.{always, rows_asked, range_start, one_more, one_less, core_at}
 use Rattle.stateful_core.specs.WellFormed.{is_well_formed}
 use Rattle.list_denotation.specs.declared.expr.BinOp.TheVariants as sign
+use Rattle.stage_machines.specs.JoinedGuards.{join_guards}
+use Rattle.stage_machines.specs.MachineParts.{machine_from, machine_core}
 use Rattle.zip_linearise.specs.HeldRows.{flag_or}
 use Rattle.zip_linearise.specs.LinearMachine.{linear_machine}
-use Rattle.zip_linearise.specs.Machines.{machine_from, machine_core, join_guards}
 use Rattle.zip_linearise.specs.NestMachine.{guarded_acts}
 
 -- an array input of these items

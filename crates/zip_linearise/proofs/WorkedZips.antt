@@ -12,8 +12,8 @@ use Rattle.stateful_core.specs.MostWords.{most_words}
 use Rattle.stateful_core.specs.StreamCores.{always, one_more, core_at}
 use Rattle.stateful_core.specs.WellFormed.{is_well_formed}
 use Rattle.list_denotation.specs.declared.expr.BinOp.TheVariants as sign
+use Rattle.stage_machines.specs.MachineParts.{machine_from, machine_core}
 use Rattle.zip_linearise.specs.LinearMachine.{linear_machine}
-use Rattle.zip_linearise.specs.Machines.{machine_from, machine_core}
 use Rattle.zip_linearise.specs.ZipMachine.{due_guard}
 
 -- two array inputs of these items

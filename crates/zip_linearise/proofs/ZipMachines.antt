@@ -19,12 +19,13 @@ use Rattle.act_moves.specs.Renumbering.{renumber, renumber_row, move_actions}
 use Rattle.act_moves.proofs.ActLengths.{run_join, KeepsState, acts_keep}
 use Rattle.act_moves.proofs.MovedActs.{placed, run_moved}
 use Rattle.act_moves.proofs.RenumberedValues.{length_values, values_append, value_renumbered, values_renumbered, room_at}
-use Rattle.machine_turns.proofs.AlikeTurns.{AlikeTurns, both_give, both_skip, both_stop, both_break, SameTruth}
+use Rattle.machine_turns.specs.AlikeTurns.{AlikeTurns, both_give, both_skip, both_stop, both_break, SameTruth}
+use Rattle.stage_machines.specs.JoinedGuards.{is_always}
+use Rattle.stage_machines.specs.MachineParts.{MachineParts}
+use Rattle.stage_machines.proofs.JoinedGuards.{always_true, same_twice}
 use Rattle.zip_linearise.specs.HeldRows.{zeros, first_word, second_place}
-use Rattle.zip_linearise.specs.Machines.{MachineParts, is_always}
 use Rattle.zip_linearise.specs.ZipMachine.{right_word, due_guard, zip_machine}
 use Rattle.zip_linearise.proofs.HeldRows.{first_words, run_first, holds_row}
-use Rattle.zip_linearise.proofs.StageMachines.{always_true, same_twice}
 
 -- ---- guards
 

@@ -10,13 +10,15 @@ use Rattle.stateful_core.specs.CoreShapes.{core_scope}
 use Rattle.stateful_core.specs.CoreTerms.{CoreTerm}
 use Rattle.stateful_core.specs.Turns.{Turn, turn_rows}
 use Rattle.stateful_core.specs.WordValues.{word_values}
+use Rattle.stateful_core.proofs.SoundTerms.{SoundPair}
 use Rattle.act_moves.proofs.SoundActs.{SoundParts}
-use Rattle.machine_turns.proofs.AlikeTurns.{AlikeTurns, SameTruth, alike_rows, alike_runs}
+use Rattle.machine_turns.specs.AlikeTurns.{AlikeTurns, SameTruth}
+use Rattle.machine_turns.proofs.AlikeTurns.{alike_rows, alike_runs}
+use Rattle.stage_machines.specs.MachineParts.{MachineParts, machine_core}
 use Rattle.zip_linearise.specs.Laws.{Laws}
 use Rattle.zip_linearise.specs.LinearMachine.{linear_machine}
-use Rattle.zip_linearise.specs.Machines.{MachineParts, machine_core}
 use Rattle.zip_linearise.specs.ZipMachine.{zip_machine}
-use Rattle.zip_linearise.proofs.SoundMachines.{SoundPair, machine_parts, machine_scope}
+use Rattle.zip_linearise.proofs.SoundMachines.{machine_parts, machine_scope}
 use Rattle.zip_linearise.proofs.ZipMachines.{HeldZip, zip_start, zip_guards, zip_turns}
 
 module _ (laws : Laws) (inputs : List Input) (env : List ℕ) (left right : CoreTerm)

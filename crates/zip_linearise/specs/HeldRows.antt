@@ -5,7 +5,8 @@ use Rattle.std.specs.Prelude.{ℕ, ◌+◌, List, length, replicate, if◌then�
 use Rattle.list_denotation.specs.Terms.{Term, Lit, Or}
 use Rattle.stateful_core.specs.CoreTerms.{StopUnless, Update, Actions, Cons, join}
 use Rattle.act_moves.specs.Renumbering.{with_room, renumber_row, move_actions}
-use Rattle.zip_linearise.specs.Machines.{MachineParts, is_always}
+use Rattle.stage_machines.specs.JoinedGuards.{is_always}
+use Rattle.stage_machines.specs.MachineParts.{MachineParts}
 
 -- what stands for a row that isn't held yet, and for a state that isn't begun
 abbrev pub zeros : ℕ → List Term

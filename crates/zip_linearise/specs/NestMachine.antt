@@ -5,8 +5,9 @@ use Rattle.list_denotation.specs.Terms.{Term, Lit, Var}
 use Rattle.stateful_core.specs.CoreTerms.{Update, When, Actions, Nil, Cons}
 use Rattle.act_moves.specs.Flags.{skip_with, close_unless}
 use Rattle.act_moves.specs.Renumbering.{with_room, renumber, renumber_row, move_actions}
+use Rattle.stage_machines.specs.JoinedGuards.{is_always}
+use Rattle.stage_machines.specs.MachineParts.{MachineParts}
 use Rattle.zip_linearise.specs.HeldRows.{zeros, first_word, second_place, hold_acts, flag_or}
-use Rattle.zip_linearise.specs.Machines.{MachineParts, is_always}
 
 -- the number of a word that the inner machine reads
 abbrev pub inner_word : MachineParts → ℕ → ℕ

@@ -2,18 +2,16 @@
 use Rattle.std.specs.Prelude.{◌≡◌, ℕ, List, length, IsTrue}
 use Rattle.list_denotation.specs.declared.input.Input.{Input}
 use Rattle.stateful_core.specs.CoreRows.{core_rows}
-use Rattle.stateful_core.specs.CoreShapes.{core_scope, core_width}
+use Rattle.stateful_core.specs.CoreShapes.{core_scope}
 use Rattle.stateful_core.specs.CoreTerms.{CoreTerm}
 use Rattle.stateful_core.specs.CoreWork.{core_work}
 use Rattle.denotation_laws.specs.FarRows.{FarRows}
-use Rattle.denotation_laws.specs.RowWords.{EachRow}
 use Rattle.stateful_core.specs.WellFormed.{is_sound_core}
+use Rattle.stage_machines.specs.MachineParts.{machine_core}
 use Rattle.zip_linearise.specs.LinearMachine.{linear_machine}
-use Rattle.zip_linearise.specs.Machines.{machine_core}
 
 -- The machine of a sound term, as a definition: at every bound n, what it gives in n steps is as far
 -- as the rows of the term, and these are as far as what it gives in as many steps as the term's work.
--- The rows of any term have its width.
 abbrev pub MachinesGoNoFurtherThanTerms : Type 0
 MachinesGoNoFurtherThanTerms =
     (c : CoreTerm) (env : List ℕ) (inputs : List Input) (n : ℕ)
@@ -27,8 +25,3 @@ MachinesGoAsFarAsTerms =
     → IsTrue (is_sound_core c) → length env ≡ core_scope c
     → FarRows (core_rows c env inputs n)
     (core_rows (machine_core (linear_machine c)) env inputs (core_work c env inputs n))
-
-abbrev pub CoreRowsHaveTheirWidth : Type 0
-CoreRowsHaveTheirWidth =
-    (c : CoreTerm) (env : List ℕ) (inputs : List Input) (n : ℕ)
-    → EachRow (λ r. length r ≡ core_width c) (core_rows c env inputs n)

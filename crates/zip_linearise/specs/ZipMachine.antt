@@ -6,8 +6,9 @@ use Rattle.list_denotation.specs.Terms.{Term, Lit, Var, Not, And, Or}
 use Rattle.stateful_core.specs.CoreTerms.{StopUnless, Update, When, Actions, Nil, Cons, join}
 use Rattle.act_moves.specs.Flags.{skip_with}
 use Rattle.act_moves.specs.Renumbering.{with_room, renumber, renumber_row, move_actions}
+use Rattle.stage_machines.specs.JoinedGuards.{is_always, join_guards}
+use Rattle.stage_machines.specs.MachineParts.{MachineParts}
 use Rattle.zip_linearise.specs.HeldRows.{zeros, first_word, second_place, hold_acts, flag_or}
-use Rattle.zip_linearise.specs.Machines.{MachineParts, is_always, join_guards}
 
 -- the number of a word that the right machine reads
 abbrev pub right_word : MachineParts → ℕ → ℕ

@@ -9,9 +9,9 @@ ghost use Rattle.act_moves.specs.Renumbering.{renumber_row, move_actions};
 ghost use Rattle.act_moves.specs.WordRoom.{number_in, most_in, RowReadsBelow, StayBelow};
 ghost use Rattle.zip_linearise.specs.HeldRows.{zeros};
 
-use crate::machine::Machine;
 use act_moves::{Halt, Room, push_moved, renumber_row};
 use list_denotation::{Expr, Exprs, push_copies, width};
+use stage_machines::Machine;
 use stateful_core::{Act, Acts};
 use std::alloc::Global;
 use strm_num::{List, NoMemory};

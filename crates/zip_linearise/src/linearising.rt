@@ -7,18 +7,17 @@ ghost use Rattle.stateful_core.specs.CoreShapes.{core_scope};
 ghost use Rattle.stateful_core.specs.MostWords.{added_words};
 ghost use Rattle.stateful_core.specs.WellFormed.{is_sound_core, is_well_formed};
 ghost use Rattle.act_moves.specs.WordRoom.{StayBelow};
-ghost use Rattle.zip_linearise.specs.MachineCopies.{machine_of};
+ghost use Rattle.stage_machines.specs.MachineCopies.{machine_of};
+ghost use Rattle.stage_machines.specs.MachineParts.{machine_core, machine_from};
 ghost use Rattle.zip_linearise.specs.MachinePromise.{IsMachineOf};
 ghost use Rattle.zip_linearise.specs.LinearMachine.{linear_machine};
-ghost use Rattle.zip_linearise.specs.Machines.{machine_core, machine_from};
 
 use crate::laws::laws_below;
-use crate::machine::{Machine, boxed_machine};
 use crate::nests::nest_machine;
-use crate::stages::stage_machine;
 use crate::zips::zip_machine;
 use act_moves::{Halt, Room, push_moved};
 use list_denotation::{Expr, Exprs, copies, copy};
+use stage_machines::{Machine, Parts, boxed_machine, stage_machine};
 use stateful_core::{Acts, Core};
 use std::alloc::Global;
 use strm_num::{List, NoMemory};
@@ -66,15 +65,22 @@ fn machine_at(alloc: Global, c: &Core) -> Result<Box<Machine>, NoMemory>
             item,
         } => lin_machine(alloc, *scope, init, guard, acts, item),
         Core::Tr {
+            scope,
             of,
             init,
             guard,
             acts,
             item,
-            ..
         } => {
             let below = machine_at(alloc, of)?;
-            stage_machine(alloc, &below, init, guard, acts, item)
+            let stage = Parts {
+                scope: *scope,
+                init,
+                guard,
+                acts,
+                item,
+            };
+            stage_machine(alloc, 0, below.parts(), stage)
         }
         Core::Nest { of, inner } => {
             let outer = machine_at(alloc, of)?;

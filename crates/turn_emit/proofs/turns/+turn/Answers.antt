@@ -22,7 +22,8 @@ use Rattle.state_alloc.specs.Frames.{Takes}
 use Rattle.row_emit.specs.Placed.{condition_piece}
 use Rattle.row_emit.specs.TurnCopies.{stop_of}
 use Rattle.turn_emit.specs.Turns.{held_of, piece_at, second_piece, pair_piece, with_tail, IsReadyAt}
-use Rattle.turn_emit.proofs.ActCopies.{first_and_rest, keep_copy, stop_copy, update_copy}
+use Rattle.stateful_core.proofs.ActCopies.{keep_copy, stop_copy, update_copy}
+use Rattle.turn_emit.proofs.ActCopies.{first_and_rest}
 use Rattle.turn_emit.proofs.ActPieces.{got_index, let_step, tested_some, unused_some, same_bound, keep_same, stop_same, keep_readable, stop_readable, test_none, test_false, update_step, update_room, update_settable, when_first, when_second, when_both, on_ready, off_ready, pair_grows}
 use Rattle.turn_emit.proofs.Growth.{scratch_grows, piece_grows}
 use Rattle.turn_emit.proofs.Puts.{room_of, puts_of, takes_of, takes_then, puts_behind, puts_then, fresh, puts_late, puts_unbound, read_appends, puts_test, puts_on, puts_off, puts_rejoined, condition_same, second_after}

@@ -2,7 +2,7 @@ use Rattle.std.proofs.Common.{ap, ◌∙◌}
 use Rattle.list_denotation.specs.Copies.{terms_of}
 use Rattle.stateful_core.specs.CoreCopies.{action_of, actions_of}
 use Rattle.turn_blocks.specs.WordUses.{may_wait}
-use Rattle.word_uses.proofs.ActCopies.{update_copy}
+use Rattle.stateful_core.proofs.ActCopies.{update_copy}
 use Rattle.word_uses.proofs.WordUses.{stays_else}
 use Rattle.word_uses.proofs.waiting.+stays.Goals as goal
 

@@ -7,10 +7,11 @@ use Rattle.stateful_core.specs.CoreShapes.{core_scope}
 use Rattle.stateful_core.specs.CoreTerms.{CoreTerm, Lin, Tr, Nest, Zip}
 use Rattle.stateful_core.specs.MostWords.{added_words}
 use Rattle.stateful_core.specs.WellFormed.{is_sound_core}
-use Rattle.zip_linearise.specs.MachineCopies.{machine_of}
+use Rattle.stage_machines.specs.MachineCopies.{machine_of, parts_of}
+use Rattle.stage_machines.specs.MachineParts.{machine_from}
 use Rattle.zip_linearise.specs.LinearMachine.{linear_machine}
 use Rattle.zip_linearise.proofs.LinearRoom.{lin_below, StageFits, stage_fits, inner_sound, inner_fits, NestFits, nest_fits, ZipFits, zip_fits}
-use Rattle.zip_linearise.proofs.linearising.+machine_at.Goals.{After-deref-in-Tr, After-deref-in-Nest-2, After-deref-in-Nest-4, After-deref-in-Zip-4}
+use Rattle.zip_linearise.proofs.linearising.+machine_at.Goals.{After-parts, After-deref-in-Nest-2, After-deref-in-Nest-4, After-deref-in-Zip-4}
 use Rattle.zip_linearise.proofs.linearising.+machine_at.Goals as goal
 
 pub lin_machine-requires : goal.lin_machine-requires
@@ -20,21 +21,18 @@ lin_machine-requires t c =
     (subst (λ (x : CoreTerm). IsTrue (is_sound_core x)) shape c.requires.sound) (subst (λ (x : CoreTerm). core_scope x + added_words x < 2 ^ 32) shape c.requires.room)
 
 -- what is asked for at a stage, over the machine that was made of the term below it
-fits : (t : ℕ) (c : After-deref-in-Tr t) → StageFits (machine_of c.deref-in-Tr.result.now) (terms_of c.in-Tr.init) (term_of c.in-Tr.guard) (actions_of c.in-Tr.acts) (terms_of c.in-Tr.item)
+fits : (t : ℕ) (c : After-parts t) → StageFits (parts_of c.parts.result) (machine_from c.in-Tr.scope (terms_of c.in-Tr.init) (term_of c.in-Tr.guard) (actions_of c.in-Tr.acts) (terms_of c.in-Tr.item))
 fits t c =
     let of = core_term_of c.in-Tr.of.value in
     let shape : core_term_of c.args.c.now ≡ Tr c.in-Tr.scope of (terms_of c.in-Tr.init) (term_of c.in-Tr.guard) (actions_of c.in-Tr.acts) (terms_of c.in-Tr.item) = ap core_term_of c.in-Tr.is in
-    let made : machine_of c.deref-in-Tr.result.now ≡ linear_machine of =
-    ap machine_of c.deref-in-Tr.ensures ∙ c.in_ok-below-in-Tr.ensures ∙ ap (λ x. linear_machine (core_term_of x)) c.deref.ensures in
-    stage_fits c.laws_below.ensures c.in-Tr.scope of (terms_of c.in-Tr.init) (term_of c.in-Tr.guard) (actions_of c.in-Tr.acts) (terms_of c.in-Tr.item) (machine_of c.deref-in-Tr.result.now) made
+    let made : parts_of c.parts.result ≡ linear_machine of =
+    c.parts.ensures ∙ ap machine_of c.deref-in-Tr.ensures ∙ c.in_ok-below-in-Tr.ensures ∙ ap (λ x. linear_machine (core_term_of x)) c.deref.ensures in
+    stage_fits c.laws_below.ensures c.in-Tr.scope of (terms_of c.in-Tr.init) (term_of c.in-Tr.guard) (actions_of c.in-Tr.acts) (terms_of c.in-Tr.item) (parts_of c.parts.result) made
     (subst (λ (x : CoreTerm). IsTrue (is_sound_core x)) shape c.requires.sound)
     (subst (λ (x : CoreTerm). core_scope x + added_words x < 2 ^ 32) shape c.requires.room)
 
-pub stage_machine-requires-clause-machine : goal.stage_machine-requires-clause-machine
-stage_machine-requires-clause-machine t c = (fits t c).machine
-
-pub stage_machine-requires-clause-stage : goal.stage_machine-requires-clause-stage
-stage_machine-requires-clause-stage t c = (fits t c).stage
+pub stage_machine-requires-clause-over : goal.stage_machine-requires-clause-over
+stage_machine-requires-clause-over t c = (fits t c).over
 
 pub stage_machine-requires-clause-room : goal.stage_machine-requires-clause-room
 stage_machine-requires-clause-room t c = (fits t c).room

@@ -6,7 +6,7 @@ use Rattle.stateful_core.specs.CoreTerms.{StopUnless}
 use Rattle.act_moves.specs.WordRoom.{number_in}
 use Rattle.act_moves.proofs.CopiedActs.{acts_copied}
 use Rattle.act_moves.proofs.MadeActs.{from_empty}
-use Rattle.zip_linearise.specs.Machines.{machine_from}
+use Rattle.stage_machines.specs.MachineParts.{machine_from}
 use Rattle.zip_linearise.proofs.linearising.lin_machine.Goals as goal
 
 pub returns : goal.returns

@@ -1,8 +1,8 @@
 use Rattle.std.proofs.Common.{sym, ap, ◌∙◌, subst}
 use Rattle.stateful_core.specs.CoreCopies.{core_term_of}
-use Rattle.zip_linearise.specs.MachineCopies.{machine_of}
+use Rattle.stage_machines.specs.MachineCopies.{machine_of}
+use Rattle.stage_machines.specs.MachineParts.{MachineParts, machine_core}
 use Rattle.zip_linearise.specs.MachinePromise.{IsMachineOf}
-use Rattle.zip_linearise.specs.Machines.{MachineParts, machine_core}
 use Rattle.zip_linearise.proofs.LinearMachines.{machine_kept}
 use Rattle.zip_linearise.proofs.linearising.linearise.Goals as goal
 

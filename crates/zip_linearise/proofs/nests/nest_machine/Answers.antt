@@ -3,7 +3,7 @@ use Rattle.std.proofs.lemmas.Result.{IfOk-weaker}
 use Rattle.list_denotation.specs.Copies.{term_of, terms_of}
 use Rattle.stateful_core.specs.CoreCopies.{actions_of}
 use Rattle.act_moves.specs.WordRoom.{number_in}
-use Rattle.zip_linearise.specs.MachineCopies.{machine_of}
+use Rattle.stage_machines.specs.MachineCopies.{machine_of}
 use Rattle.zip_linearise.proofs.MachineActs.{choice_first}
 use Rattle.zip_linearise.proofs.PairRoom.{first_room, inner_room, guard_in_room, init_in_room, item_in_room, acts_in_room, first_numbers, inner_numbers, nest_made}
 use Rattle.zip_linearise.proofs.nests.nest_machine.Goals as goal

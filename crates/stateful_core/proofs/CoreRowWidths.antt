@@ -1,25 +1,19 @@
 -- The rows of a core term are as wide as the term.
-use Rattle.std.proofs.Common.{inl, inr, ◌≡◌, ℕ, zero, suc, ◌+◌, List, [], ◌++◌, length, sym, subst, arith, length-append}
+use Rattle.std.proofs.Common.{◌≡◌, ℕ, zero, suc, ◌+◌, List, [], ◌++◌, length, arith, length-append}
 use Rattle.list_denotation.specs.declared.input.Input.{Input}
 use Rattle.list_denotation.specs.Rows.{End, Cut, Broken, Rows, Ends, Row, followed_by, join_rows, zip_rows}
 use Rattle.list_denotation.specs.Terms.{Term}
 use Rattle.list_denotation.specs.Values.{Fault, choice}
-use Rattle.denotation_laws.specs.RowWords.{EachRow, IsRowOf}
+use Rattle.denotation_laws.specs.RowWords.{EachRow}
 use Rattle.stateful_core.specs.Actions.{ActResult, Continue, Skip, Halt, Break, run_acts}
 use Rattle.stateful_core.specs.CoreRows.{turn_end, core_turn, guard_value, core_rows}
 use Rattle.stateful_core.specs.CoreShapes.{core_width}
 use Rattle.stateful_core.specs.CoreTerms.{Actions, CoreTerm, Lin, Tr, Nest, Zip}
 use Rattle.stateful_core.specs.Turns.{Turn, Gives, Skips, Stops, Breaks, after_turn, turn_rows, stage_rows}
 use Rattle.stateful_core.specs.WordValues.{word_values}
-use Rattle.act_moves.proofs.RenumberedValues.{length_values}
+use Rattle.stateful_core.proofs.VariableRows.{length_word_values}
 
--- what holds of each row of a list holds of any one
-pub row_among : (P : List ℕ → Type 0) (r : List ℕ) (rows : Rows) → EachRow P rows → IsRowOf r rows → P r
-row_among P r (Ends e) each among = absurd among
-row_among P r (Row s rest) each (inl e) = subst P (sym e) each.0
-row_among P r (Row s rest) each (inr among) = row_among P r rest each.1 among
-
-abbrev pub AsWide : ℕ → Rows → Type 0
+abbrev AsWide : ℕ → Rows → Type 0
 AsWide w rows = EachRow (λ r. length r ≡ w) rows
 
 -- ---- rows of turns
@@ -35,7 +29,7 @@ wide_turn : (acts : Actions) (item : List Term) (env : List ℕ) (inputs : List 
 wide_turn acts item env inputs s r = by_end (run_acts acts env inputs s r)
   where
     by_end : (u : ActResult) → TurnOf (length item) (turn_end u (λ t l. word_values item (env ++ (t ++ l)) inputs))
-    by_end (Continue t l) = wide_gives _ t (length_values inputs item (env ++ (t ++ l)))
+    by_end (Continue t l) = wide_gives _ t (length_word_values inputs item (env ++ (t ++ l)))
     by_end (Skip t) = wide_skips t
     by_end (Halt t) = wide_stops
     by_end (Break f) = wide_breaks f
