@@ -26,9 +26,10 @@ pub fn report<E: Sink>(status: &Status, err: &mut E)
     }
 }
 
-// Writes a text, that of a status after it, and the end of the line.
+/// Writes a text, that of a status after it, and the end of the line: the line of the status behind the name
+/// of a program. Where the sink fails, a prefix of it stands there.
 #[tactic(auto, using(crate::proofs::WrittenLines::puts))]
-fn put_line<E: Sink>(err: &mut E, prefix: &[u8], status: &Status) -> Result<(), WriteFault>
+pub fn put_line<E: Sink>(err: &mut E, prefix: &[u8], status: &Status) -> Result<(), WriteFault>
     ensures puts { PutsAll (E.written err.old) (E.written err.new)
         (prefix.now ++ status_text status.now ++ codes "\n") result }
     ensures cause { WriteHasCause (E.faults err.old) (E.faults err.new) result }

@@ -3,17 +3,27 @@
 #![tactic(auto)]
 
 use std::env;
+use std::io::{self, ErrorKind};
 use std::process::ExitCode;
 use strm_io::{HostFiles, HostSink};
 use strymonas_run::{Status, run_words};
 
-/// The number of an end at which the system doesn't give the arguments. No status has it.
-const NO_ARGUMENTS: u8 = 20;
+/// The number of an end at which a word of the command is no text: it isn't UTF-8. No status has it.
+const NO_TEXT: u8 = 20;
+
+/// The number of the end where the words of the command aren't to be had.
+fn without_words(fault: &io::Error) -> ExitCode {
+    match fault.kind() {
+        ErrorKind::OutOfMemory => ExitCode::from(Status::NoMemory.code()),
+        _ => ExitCode::from(NO_TEXT),
+    }
+}
 
 fn main(rt: HostRuntime) -> ExitCode {
     let mut words = Vec::new(rt.alloc());
-    let Ok(args) = env::args(&rt) else {
-        return ExitCode::from(NO_ARGUMENTS);
+    let args = match env::args(&rt) {
+        Ok(args) => args,
+        Err(fault) => return without_words(&fault),
     };
     for word in args.skip(1) {
         if words.push(word).is_err() {
