@@ -6,9 +6,9 @@
 # in MiB where there is a GNU time, and what was answered. The first line is a text without statements: what
 # starting the program takes, in milliseconds. Reading and printing should be at 20 MB a second or better.
 set -eu
-cd "$(dirname "$0")/.."
-. examples/program.sh
-. examples/c/reading_back.sh
+. "$(dirname "$0")/../examples/program.sh"
+. "$top/examples/c/reading_back.sh"
+cd "$top"
 
 header='#include "pipeline.h"'
 

@@ -11,8 +11,8 @@
 # a line for each pair of signs. No text should take 200 milliseconds or 256 MiB. Memory is printed where
 # there is a GNU time.
 set -eu
-cd "$(dirname "$0")/.."
-. examples/program.sh
+. "$(dirname "$0")/../examples/program.sh"
+cd "$top"
 
 # mapped EXPR: a pipeline whose rows are this expression
 mapped() {

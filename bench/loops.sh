@@ -17,8 +17,8 @@
 # The script ends with 1 where a pipeline isn't compiled, where a run doesn't give what the loop by hand gives, or
 # where an emitted loop doesn't return 0.
 set -eu
-cd "$(dirname "$0")/.."
-. examples/program.sh
+. "$(dirname "$0")/../examples/program.sh"
+cd "$top"
 items=${1:-10000000}
 rounds=${2:-11}
 loops=$PWD/bench/loops

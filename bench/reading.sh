@@ -5,8 +5,8 @@
 # on standard error, which is nothing where the text is read whole. The first line is a text of no bytes:
 # what starting the program takes.
 set -eu
-cd "$(dirname "$0")/.."
-. examples/program.sh
+. "$(dirname "$0")/../examples/program.sh"
+cd "$top"
 
 # text BYTES: an array and a map of 527 bytes as often as there is room for, and then blanks
 text() {

@@ -3,8 +3,8 @@
 # 4,194,304 items, beside awk doing the same work; and how long a value file of 64 MiB takes. It asserts
 # nothing. A run with `take 0` reads the values and runs no turn; its time is taken off for the rates.
 set -u
-cd "$(dirname "$0")" || exit 1
-. ../examples/program.sh
+. "$(dirname "$0")/../examples/program.sh"
+cd "$top/bench" || exit 1
 items=4194304
 
 # measured COMMAND..: least seconds and most MiB of three runs

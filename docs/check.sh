@@ -30,7 +30,6 @@ set -u
 here=$(cd "$(dirname "$0")" && pwd)
 # shellcheck source=../examples/program.sh source-path=SCRIPTDIR
 . "$here/../examples/program.sh"
-program=$(cd "$(dirname "$program")" && pwd)/$(basename "$program")
 export LC_ALL=C
 bad=0
 skipped=0

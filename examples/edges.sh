@@ -1,8 +1,10 @@
 #!/usr/bin/env bash
-# What the program answers at the edges of real files and devices: the status and the line of each.
+# What the program answers at the edges of real files and devices: the status and the line of each. Each text of the
+# table `inputs` is given to `run`.
 set -u
-cd "$(dirname "$0")" || exit 1
-. ./program.sh
+. "$(dirname "$0")/program.sh"
+. "$top/examples/inputs.sh"
+cd "$top/examples" || exit 1
 bad=0
 count=0
 
@@ -32,26 +34,26 @@ wrote() {
   fi
 }
 
-echo 'input a: array; array a | print' >"$work/p"
-echo 'unfold 0 with i while true yield i next i + 1 | print' >"$work/endless"
-program=$(cd "$(dirname "$program")" && pwd)/$(basename "$program")
+# given KIND ANSWER TEXT: what `run` answers to a row of the table
+given() {
+  local text status=0 line=''
+  case $2 in gives*) ;; *) status=9 line="strymonas: bad input: a: $2" ;; esac
+  if [ "$1" = array ]; then
+    values "$3"
+    answers "$status" "$line" run p a=v
+  else
+    text=$(printf '%b.' "$3")
+    answers "$status" "$line" run k "a=${text%.}"
+  fi
+  [ "$status" != 0 ] || wrote "$(rows_of "$2")"
+}
 
-values '1\r\n\t2\t\r\n3'
-answers 0 '' run p a=v
-wrote $'1\n2\n3'
-values ''
-answers 0 '' run p a=v
-values '4 -'
-answers 9 'strymonas: bad input: a: Bad at 2' run p a=v
-values '+1'
-answers 9 'strymonas: bad input: a: Bad at 0' run p a=v
-values '7 1234567890123456789012345'
-answers 9 'strymonas: bad input: a: Range at 2' run p a=v
-values '000000000000000000000000000000000000000012 -0'
-answers 0 '' run p a=v
-wrote $'12\n0'
-values '1\0000 2'
-answers 9 'strymonas: bad input: a: Bad at 0' run p a=v
+echo 'input a: array; array a | print' >"$work/p"
+echo 'input a: int; range(0, 1) | map x -> a | print' >"$work/k"
+echo 'unfold 0 with i while true yield i next i + 1 | print' >"$work/endless"
+
+each_input given
+values 1
 answers 6 'strymonas: read fault: .' run p a=.
 answers 6 'strymonas: read fault: .' run . a=v
 answers 2 'strymonas: missing: nowhere' run p a=nowhere

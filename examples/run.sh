@@ -3,8 +3,8 @@
 # `exec` of the C text that `compile` writes, with the same turns; where the run ends, `model` at as many pulls
 # gives the same too. What the C texts do under C compilers is compared by c/drivers.sh.
 set -u
-cd "$(dirname "$0")" || exit 1
-. ./program.sh
+. "$(dirname "$0")/program.sh"
+cd "$top/examples" || exit 1
 . ./table.sh
 bad=0
 count=0

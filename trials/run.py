@@ -63,6 +63,9 @@ MOST_ROWS = 50
 MOST_TIME = 2_000
 SHORT_TIME = 20
 
+# What a program of driver.sh ends with where an expression trapped.
+TRAP = 4
+
 # Behind so many differences no further batch is begun.
 MOST_DIFFERENCES = 20
 
@@ -367,7 +370,7 @@ class Batch:
                 words.append(str(value))
         done = subprocess.run([self.path("driver"), *words], capture_output=True, text=True, check=False)
         self.count("runs with the example driver")
-        if (done.stdout.splitlines(), done.returncode) != (run.lines, 0 if run.ending == "done" else 1):
+        if (done.stdout.splitlines(), done.returncode) != (run.lines, 0 if run.ending == "done" else TRAP):
             self.differs(run.number, f"the example driver, inputs {run.input_set}: {done.stdout[:200]!r}")
 
 

@@ -1,10 +1,10 @@
 #!/usr/bin/env bash
 # Compiles the C texts of examples with a real C compiler, each with the program that driver.sh writes for
-# it, and compares what they print, and the number that they return, with values worked out by hand: over
+# it, and compares what they print, and the number that they end with, with values worked out by hand: over
 # inputs at their edges, and inputs that can't be read. The texts are written by the program that the gate leaves.
 set -eu
-cd "$(dirname "$0")"
-. ./running.sh
+. "$(dirname "$0")/running.sh"
+cd "$here"
 
 # compiled NAME: writes the C text of NAME.strm and makes a program of it
 compiled() {
@@ -29,13 +29,13 @@ compiled guarded_quotients
 gives guarded_quotients '0,2,' 0 '[0 5]'
 
 compiled quotients
-gives quotients '2,5,' 1 '[5 2 0]'
+gives quotients '2,5,' 4 '[5 2 0]'
 
 # an int, an array and an int: what isn't given, or is no number, runs nothing
 compiled surcharge
 gives surcharge '115,60,' 0 5 '[100 50]' 10
-gives surcharge '' 2 5 '[100 50]'
-gives surcharge '' 2 five '[100 50]' 10
-gives surcharge '' 2 5 '[100 9223372036854775808]' 10
+gives surcharge '' 9 5 '[100 50]'
+gives surcharge '' 9 five '[100 50]' 10
+gives surcharge '' 9 5 '[100 9223372036854775808]' 10
 
 echo "the C texts of $texts examples give what was worked out by hand, for $inputs inputs"

@@ -5,25 +5,30 @@
 #   cc -std=c11 -Iexamples/c main.c -o squares
 #   ./squares examples/squares.values
 #
-# The program includes the text and calls its function as the line `int pipeline(..)` there has it, so a C
-# compiler compares the two. It takes a word for each input, in the order in which they are declared: of an
-# array the file that has its items, with blanks or line feeds between them, and of an int the number.
-# Numbers are decimal, from -2^63 up to but without 2^63. The program ends with what the function returns,
-# or with 2 where an input can't be read.
+# The text stands in the program, which calls its function as the line `int pipeline(..)` there has it; so a C compiler
+# compares the two, and the program needs no file but driver.h and a pipeline.h. It takes a word for each input, in the
+# order in which they are declared: of an array the file that has its items, and of an int the number. It reads them as
+# `strymonas exec` does, and ends with the status and the line that this ends with, behind `pipeline` in place of
+# `strymonas`: README has a table of them.
 set -eu
 if [ $# != 1 ] || [ ! -f "$1" ]; then
   echo 'usage: driver.sh TEXT.c >main.c' >&2
   exit 2
 fi
-awk -v text="$1" '
+if ! grep -q '^int pipeline(.*) {$' "$1"; then
+  echo "$1 has no line that begins with int pipeline(" >&2
+  exit 1
+fi
+awk '
   # reads NAME by READER from the next word
   function declare(type, name, reader) {
+    lines = lines sprintf("  %s %s = %s(words[%d], %d);\n", type, name, reader, inputs + 1, inputs)
     inputs++
-    lines = lines sprintf("  %s %s = %s(words[%d]);\n", type, name, reader, inputs)
   }
   function pass(argument) { call = call (call == "" ? "" : ", ") argument }
+  BEGIN { print "#include \"driver.h\"" }
+  { print }
   /^int pipeline\(.*\) \{$/ {
-    found = 1
     count = split($0, parts, /[(),] ?/)
     for (k = 2; k < count; k++) {
       name = parts[k]
@@ -34,11 +39,6 @@ awk -v text="$1" '
     }
   }
   END {
-    if (!found) {
-      print text " has no line that begins with int pipeline(" >"/dev/stderr"
-      exit 1
-    }
-    printf "#include \"driver.h\"\n#include \"%s\"\n\n", text
-    printf "int main(int count, char **words) {\n  expect_inputs(count, words, %d);\n", inputs
-    printf "%s  return pipeline(%s);\n}\n", lines, call
-  }' "$1"
+    printf "\nint main(int count, char **words) {\n%s  expect_inputs(count, %d);\n", inputs ? "" : "  (void)words;\n", inputs
+    printf "%s  return end_of(pipeline(%s));\n}\n", lines, call
+  }' <"$1"

@@ -2,14 +2,14 @@
 # Compiles the C text of each example with each pipeline.h that is here, the one that prints rows and the one
 # that writes them into an array, by gcc and by clang, at -O0 and at -O2, with warnings as errors, without and
 # with the sanitizer of undefined behaviour. Runs each program over the inputs that the table `runs` has, and
-# compares what it prints with NAME.out, and what it returns with the table's status. An example that never ends
+# compares what it prints with NAME.out, and its status with the table's. An example that never ends
 # is compiled only. The example program array/main.c is made and run in the same ways. A compiler that isn't
 # there is left out.
 set -u
-cd "$(dirname "$0")/.." || exit 1
-. ./program.sh
+. "$(dirname "$0")/../program.sh"
+. "$top/examples/c/reading_back.sh"
+cd "$top/examples" || exit 1
 . ./table.sh
-. c/reading_back.sh
 export UBSAN_OPTIONS=exitcode=99
 
 # written: writes the C text of each example, and a main program for it
@@ -41,16 +41,16 @@ compiled() {
   return 1
 }
 
-# gives OUTPUT RETURNED VALUE..: over these values the program writes the file OUTPUT and nothing on standard
-# error, and ends with this number
+# gives OUTPUT STATUS LINE VALUE..: over these values the program writes the file OUTPUT, and on standard error this
+# line alone, if any, and ends with this number
 gives() {
-  local output=$1 wanted=$2 returned
-  shift 2
+  local output=$1 wanted=$2 line=$3 got
+  shift 3
   runs=$((runs + 1))
   "$place/main" "$@" >"$place/out" 2>"$place/said"
-  returned=$?
-  if [ "$returned" != "$wanted" ] || [ -s "$place/said" ] || ! cmp -s "$place/out" "$output"; then
-    echo "$compiler ${options[*]}: $name, $driver, returns $returned for $wanted, and writes:"
+  got=$?
+  if [ "$got" != "$wanted" ] || [ "$(sort -u "$place/said")" != "$line" ] || ! cmp -s "$place/out" "$output"; then
+    echo "$compiler ${options[*]}: $name, $driver, ends with $got for $wanted, and writes:"
     cat "$place/out" "$place/said" | head -n 5
     bad=1
   fi
@@ -58,15 +58,15 @@ gives() {
 
 # example_checked WORD..: the example `name`, over what these words bind its inputs to, with each driver
 example_checked() {
-  local returned=0
+  local line=''
   take_words "$name" "$@"
-  [ "$status" = 4 ] && returned=1
+  [ "$status" = 4 ] && line='pipeline: trap'
   for driver in printing array; do
     case $driver in
       printing) compiled -Ic "$work/$name-main.c" ;;
       array) compiled -Ic/array -Ic "-DPROGRAM=\"$work/$name-main.c\"" c/array/check.c ;;
     esac || continue
-    [ "$status" = 5 ] || gives "$name.out" "$returned" ${values[@]+"${values[@]}"}
+    [ "$status" = 5 ] || gives "$name.out" "$status" "$line" ${values[@]+"${values[@]}"}
   done
 }
 
@@ -82,7 +82,7 @@ checked() {
   done <runs
   name=quotients driver=array/main.c
   printf '2\n-5\nrows: 3\nwords without room: 1\nan expression divided by zero\n' >"$place/wanted"
-  compiled -Ic/array "$work/quotients.c" c/array/main.c && gives "$place/wanted" 1
+  compiled -Ic/array "$work/quotients.c" c/array/main.c && gives "$place/wanted" 1 ''
   echo "$programs $runs"
   return "$bad"
 }

@@ -3,9 +3,9 @@
 # compiles its C text with a real C compiler, and has pairs.c compare what it does with what the
 # language says, over 36 pairs of ints.
 set -eu
-cd "$(dirname "$0")"
-. ../program.sh
-. ./reading_back.sh
+. "$(dirname "$0")/../program.sh"
+. "$top/examples/c/reading_back.sh"
+cd "$top/examples/c"
 
 # strict WORD..: a form needn't read x, y and the item of the array, so C texts may set or have what
 # they don't read; every other warning is an error

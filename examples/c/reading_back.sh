@@ -3,7 +3,7 @@
 # is then read as the program that was printed, since a layout reads as no other. The program is the one that the
 # gate leaves, or the one that the environment variable C_FORMAT names.
 # shellcheck shell=bash disable=SC2154
-formatter=${C_FORMAT:-$top/crates/c_format/out/c_format}
+formatter=$(from_here "${C_FORMAT:-$top/crates/c_format/out/c_format}")
 if [ ! -x "$formatter" ]; then
   echo "there is no $formatter: rt ci, at the top of the repository, proves and builds it" >&2
   exit 127

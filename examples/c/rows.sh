@@ -1,10 +1,10 @@
 #!/usr/bin/env bash
 # Compiles pipelines with the program that the gate leaves, their C texts with a real C compiler, and compares
-# what they print, and the number that they return, with values worked out by hand: sources, stages and
+# what they print, and the number that they end with, with values worked out by hand: sources, stages and
 # terminals, endless streams and traps.
 set -eu
-cd "$(dirname "$0")"
-. ./running.sh
+. "$(dirname "$0")/running.sh"
+cd "$here"
 
 # row NAME TEXT [OPTION..]: makes a program of a pipeline, with these options of the compiler too
 row() {
@@ -44,7 +44,7 @@ gives even_squares '4,' 0 '[-2 -1 7]'
 # the division by the third item never comes
 row two_quotients 'input a: array; array a | map x -> 10 / x | take 2 | print'
 gives two_quotients '2,5,' 0 '[5 2 0]'
-gives two_quotients '2,' 1 '[5 0 2]'
+gives two_quotients '2,' 4 '[5 0 2]'
 
 row never 'unfold 0 with i while true yield i next i + 1 | filter i -> i < 0 | print'
 goes_on never '' 0
@@ -71,7 +71,7 @@ gives fibonacci '0,1,1,2,3,5,8,13,21,' 0
 
 # the state before the trap isn't printed
 row quotient 'input a: array; array a | fold 1 with s x -> s / x'
-gives quotient '' 1 '[2 0]'
+gives quotient '' 4 '[2 0]'
 gives quotient '-1,' 0 '[-1 1]'
 gives quotient '1,' 0 '[]'
 
@@ -112,7 +112,7 @@ row endless_inner 'range(0, 2) | flatMap i -> (unfold 0 with k while true yield 
 goes_on endless_inner '0,1,2,3,' 4
 # the second inner stream traps at its first row
 row inner_trap 'input a: array; array a | flatMap x -> (range(0, 2) | map k -> 10 / x) | print'
-gives inner_trap '2,2,' 1 '[5 0 2]'
+gives inner_trap '2,2,' 4 '[5 0 2]'
 row sum_of_all 'input a: array; array a | flatMap x -> (array a | map y -> x * y) | fold 0 with s p -> s + p'
 gives sum_of_all '36,' 0 '[1 2 3]'
 
@@ -124,7 +124,7 @@ row two_nests 'zip(range(0, 3) | flatMap i -> (range(0, i)), range(1, 3) | flatM
 gives two_nests '0 10,0 11,1 20,' 0
 # the left arm is asked first: it traps where the right one has ended
 row left_trap 'input a: array; zip(array a | map x -> 10 / x, range(0, 2)) | print'
-gives left_trap '2 0,5 1,' 1 '[5 2 0]'
+gives left_trap '2 0,5 1,' 4 '[5 2 0]'
 # and where the left one has ended the right one isn't asked
 row right_trap 'input a: array; zip(range(0, 2), array a | map x -> 10 / x) | print'
 gives right_trap '0 2,1 5,' 0 '[5 2 0]'

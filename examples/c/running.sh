@@ -38,7 +38,7 @@ gives() {
   "$work/$name" "${words[@]}" >"$work/rows" 2>"$work/said" || status=$?
   got="$(tr '\n' ',' <"$work/rows") $status"
   if [ "$got" != "$wanted" ]; then
-    echo "over '$*' the C text of $name prints and returns '$got', not '$wanted': $(cat "$work/said")"
+    echo "over '$*' the C text of $name prints and ends with '$got', not '$wanted': $(cat "$work/said")"
     exit 1
   fi
   inputs=$((inputs + 1))

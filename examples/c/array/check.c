@@ -1,9 +1,9 @@
 /* Checks the pipeline.h of this folder with one pipeline, and prints the rows that it gives.
 
    PROGRAM names the main program that driver.sh writes for the C text of the pipeline. It is called for
-   arrays of several capacities. Each time it must return the same and count the same words and rows; the
-   words for which there is room must be the same, and nothing may be written behind the capacity. It ends
-   with what the pipeline returns, or with 3 where something is wrong. */
+   arrays of several capacities. Each time it must end with the same number and count the same words and rows;
+   the words for which there is room must be the same, and nothing may be written behind the capacity. This
+   program ends with that number, or with 3 where something is wrong. */
 #include <inttypes.h>
 #include <stdio.h>
 #include <stdlib.h>
@@ -50,7 +50,7 @@ static void print_rows(const uint64_t *words, uint64_t count, uint64_t rows) {
 }
 
 int main(int count, char **inputs) {
-  int returned = run_into(NULL, 0, count, inputs);
+  int ended = run_into(NULL, 0, count, inputs);
   uint64_t wanted = pipeline_output.count;
   uint64_t rows = pipeline_output.rows;
   uint64_t *all = array_of(wanted);
@@ -60,7 +60,7 @@ int main(int count, char **inputs) {
   for (uint64_t k = 0; k < sizeof capacities / sizeof *capacities; k++) {
     uint64_t capacity = capacities[k];
     uint64_t *words = array_of(wanted + 2);
-    expect(run_into(words, capacity, count, inputs) == returned, "what is returned", capacity);
+    expect(run_into(words, capacity, count, inputs) == ended, "what it ends with", capacity);
     expect(pipeline_output.count == wanted, "the count of words", capacity);
     expect(pipeline_output.rows == rows, "the count of rows", capacity);
     for (uint64_t place = 0; place < wanted + 2; place++) {
@@ -72,5 +72,6 @@ int main(int count, char **inputs) {
 
   print_rows(all, wanted, rows);
   free(all);
-  return returned;
+  expect(fflush(stdout) == 0 && !ferror(stdout), "the rows, which are not written", wanted);
+  return ended;
 }

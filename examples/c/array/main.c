@@ -35,5 +35,9 @@ int main(void) {
   if (returned != 0) {
     printf("an expression divided by zero\n");
   }
+  if (fflush(stdout) != 0 || ferror(stdout)) {
+    fputs("what was to be printed is not written\n", stderr);
+    return 7;
+  }
   return returned;
 }
