@@ -2,13 +2,16 @@
 """What one reads to know what is promised.
 
     docs/promises.py [CRATE.specs.FILE.NAME ..]
+    docs/promises.py --laws
 
 Each promise is a definition of a crate's specs/. From a definition on, the names in it lead to the definitions that they
 are, and so on, down to std's: this is what one reads. Without words the promises are the headline and what the top call
 answers. For each the files are printed in the order in which one comes to them, with how many lines of each one reads and
 the definitions that stand there.
 
-It sees too that each link of README.md and of the pages of docs/ whose text is a `NAME` alone and which leads to a file of
+With --laws it prints the table of the laws, crate by crate, with the statements that each has as its contract.
+
+Without words it sees too that this table stands in THEOREMS.md, and that each link of README.md and of the pages of docs/ whose text is a `NAME` alone and which leads to a file of
 specs/ finds this name defined there. What is missing is printed, and the status is then 1.
 """
 import os
@@ -164,11 +167,47 @@ def check_links():
     return good
 
 
+def law_table():
+    """The table of the laws: those of src/laws.rt, crate by crate in the order of crates.txt."""
+    rows = ["| Crate | Law | Statements |", "|---|---|---|"]
+    with open(os.path.join(TOP, "crates.txt"), encoding="utf-8") as file:
+        crates = re.findall(r"^(\w+):", file.read(), re.M)
+    for crate in crates:
+        path = os.path.join(TOP, "crates", crate, "src", "laws.rt")
+        if not os.path.exists(path):
+            continue
+        with open(path, encoding="utf-8") as file:
+            text = file.read()
+        homes = {}
+        for home, names in re.findall(r"^ghost use Rattle\.(\w+)\.specs\.Promises\.\{([^}]*)\};", text, re.M):
+            homes.update({name.strip(): home for name in names.split(",")})
+        for law, clauses in re.findall(r"^pub fn (\w+)\(\)\n((?:    ensures[^\n]*\n)+)", text, re.M):
+            names = re.findall(r"\{ (\w+) \}", clauses)
+            links = [f"[`{name}`](../crates/{homes[name]}/specs/Promises.antt)" for name in names if name in homes]
+            if links:
+                rows.append(f"| {crate} | `{law}` | {', '.join(links)} |")
+    return rows
+
+
+def check_table():
+    """The table of the laws stands in THEOREMS.md."""
+    with open(os.path.join(TOP, "docs", "THEOREMS.md"), encoding="utf-8") as file:
+        page = file.read()
+    good = "\n".join(law_table()) + "\n" in page
+    if not good:
+        print("docs/THEOREMS.md: its table of laws isn't the one that docs/promises.py --laws prints")
+    return good
+
+
 def main():
     words = sys.argv[1:]
+    if words == ["--laws"]:
+        print("\n".join(law_table()))
+        return
     wanted = [(word, word) for word in words] or PROMISES
     good = all([tell(what, promise) for what, promise in wanted])
     if not words:
+        good = check_table() and good
         good = check_links() and good
     sys.exit(0 if good else 1)
 
