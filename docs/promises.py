@@ -182,7 +182,7 @@ def law_table():
         for home, names in re.findall(r"^ghost use Rattle\.(\w+)\.specs\.Promises\.\{([^}]*)\};", text, re.M):
             homes.update({name.strip(): home for name in names.split(",")})
         for law, clauses in re.findall(r"^pub fn (\w+)\(\)\n((?:    ensures[^\n]*\n)+)", text, re.M):
-            names = re.findall(r"\{ (\w+) \}", clauses)
+            names = list(dict.fromkeys(re.findall(r"\{ (\w+)(?: [^}]*)? \}", clauses)))
             links = [f"[`{name}`](../crates/{homes[name]}/specs/Promises.antt)" for name in names if name in homes]
             if links:
                 rows.append(f"| {crate} | `{law}` | {', '.join(links)} |")
