@@ -5,8 +5,8 @@ ghost use Rattle.loop_emit.specs.Laws.{Laws};
 use dead_code::{dead_code_does_nothing, live_programs_are_no_larger};
 use denotation_laws::{
     expressions_read_bound_words_alone, far_is_an_order, no_observation_is_stuck,
-    stages_keep_far_rows,
-    typed_streams_read_their_scopes, undivided_expressions_have_values, values_are_words,
+    stages_keep_far_rows, typed_streams_read_their_scopes, undivided_expressions_have_values,
+    values_are_words,
 };
 use expr_lower::{
     expressions_are_lowered, expressions_name_their_leaves, scopes_hold_expressions,
